@@ -1,7 +1,7 @@
 -- A text is its first segment, and the segments after the slash.
-use Rattle.std.proofs.Common.{◌≡◌, ℕ, suc, ◌+◌, Bool, true, false, not, cond, List, [], ◌∷◌, length, take, drop, refl, ap, ◌∙◌, arith, None, Some, nat_lt}
+use Rattle.std.proofs.Common.{◌≡◌, ℕ, suc, ◌+◌, Bool, true, false, not, cond, List, [], ◌∷◌, length, take, drop, refl, ap, ◌∙◌, arith, nat_lt, ◌<◌}
 use Rattle.std.specs.Prelude.{if◌then◌else◌}
-use Rattle.std.specs.List.{position, position_or_len}
+use Rattle.std.specs.List.{position_or_len, before_first, after_first}
 use Rattle.std.proofs.lemmas.Bool.Decides.{nat_tests}
 use native.Mathlib.Numerals.{unary_clauses}
 use Rattle.std.proofs.Math.Numerals.{one-add}
@@ -36,19 +36,14 @@ at_slash (b ∷ bs) =
     ] in
     rw one-add (step (is_slash b))
 
-pub after_slash : (xs : List ℕ) (at : ℕ) → position is_slash xs ≡ Some at → segments_of xs ≡ take at xs ∷ segments_of (drop (at + 1) xs)
-after_slash xs at found =
-    elim (nat_lt (place xs) (length xs)) as (λ t. cond t (Some (place xs)) None ≡ Some at → segments_of xs ≡ take (place xs) xs ∷ (if t then segments_of (drop (place xs + 1) xs) else []) → segments_of xs ≡ take at xs ∷ segments_of (drop (at + 1) xs)) [
-      | true ↦ λ f s. let same : place xs ≡ at = cc in rw (← same) s
-      | false ↦ λ f s. cc
-    ] found (at_slash xs)
+-- the first part and the rest
+pub at_first : (xs : List ℕ) → place xs < length xs → segments_of xs ≡ before_first is_slash xs ∷ segments_of (after_first is_slash xs)
+at_first xs within =
+    let test : nat_lt (place xs) (length xs) ≡ true = grind (arith, nat_tests) in
+    at_slash xs ∙ rw test refl
 
-all_of : (n : ℕ) (xs : List ℕ) → nat_lt n (length xs) ≡ false → parted n xs ≡ xs ∷ []
-all_of n xs past = rw past (ap (λ ys. ys ∷ []) (take_all n xs (grind (arith, nat_tests))))
-
-pub no_slash : (xs : List ℕ) → position is_slash xs ≡ None → segments_of xs ≡ xs ∷ []
+-- a text without slashes is one part
+pub no_slash : (xs : List ℕ) → place xs ≡ length xs → segments_of xs ≡ xs ∷ []
 no_slash xs none =
-    elim (nat_lt (place xs) (length xs)) as (λ t. nat_lt (place xs) (length xs) ≡ t → cond t (Some (place xs)) None ≡ None → segments_of xs ≡ xs ∷ []) [
-      | true ↦ λ t f. cc
-      | false ↦ λ t f. at_slash xs ∙ all_of (place xs) xs t
-    ] refl none
+    let test : nat_lt (place xs) (length xs) ≡ false = grind (arith, nat_tests) in
+    at_slash xs ∙ rw test (ap (λ ys. ys ∷ []) (take_all (place xs) xs (omega arith)))

@@ -5,4 +5,4 @@ use Rattle.res_paths.specs.declared.Segments.{Segments}
 use Rattle.res_paths.specs.Paths.{segments_of}
 
 abbrev pub segments_left : Segments → List (List ℕ)
-segments_left segments = elim segments.rest [ None ↦ [] | Some bytes ↦ segments_of bytes.now ]
+segments_left segments = elim segments.rest [ None ↦ [] | Some text ↦ segments_of text.now ]

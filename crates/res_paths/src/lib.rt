@@ -1,7 +1,7 @@
 //! The form of a project's paths: `res://` and segments parted by `/`.
 #![tactic(auto)]
 
-ghost use Rattle.std.specs.Prelude.{◌≡◌, ◌+◌, ◌^◌, ◌<◌, ◌&&◌, ◌||◌, IfSome, IsTrue, length, drop};
+ghost use Rattle.std.specs.Prelude.{◌≡◌, MatchOption, IsTrue, drop, false};
 ghost use Rattle.std.specs.List.{list_all, position};
 ghost use Rattle.std.specs.Iterator.{YieldsFirstRef, item_count};
 ghost use Rattle.res_paths.specs.Paths.{is_slash, segments_of, is_segment, is_visible, has_front, has_segments, is_res_path, is_script_name, is_scene_name, is_source_path, is_project_path, project_file};
@@ -15,63 +15,55 @@ pub const PROJECT_FILE: &str = "res://project.godot";
 /// The parts of a text between slashes, of which there is one more than there are slashes.
 #[derive(Drop)]
 pub struct Segments<'a> {
-    rest: Option<&'a [u8]>,
+    rest: Option<&'a str>,
 }
 
 impl<'a> Segments<'a> {
     ghost use Rattle.res_paths.specs.Segments.{segments_left};
 
-    pub fn new(bytes: &'a [u8]) -> Self
-        ensures { segments_left result ≡ segments_of bytes.now }
+    pub fn new(text: &'a str) -> Self
+        ensures { segments_left result ≡ segments_of text.now }
     {
-        Segments { rest: Some(bytes) }
+        Segments { rest: Some(text) }
     }
 }
 
 impl<'a> Iterator for Segments<'a> {
     ghost use Rattle.res_paths.specs.Segments.{segments_left};
 
-    type Item = &'a [u8];
+    type Item = &'a str;
 
     ghost next_gives = { YieldsFirstRef segments_left };
 
     ghost remaining = { item_count segments_left };
 
-    fn next(&mut self) -> Option<&'a [u8]> {
-        let bytes = self.rest?;
-        match first_slash(bytes) {
-            Some(at) => {
-                self.rest = Some(&bytes[at + 1..]);
-                Some(&bytes[..at])
+    fn next(&mut self) -> Option<&'a str> {
+        let text = self.rest?;
+        match text.split_once('/') {
+            Some((part, rest)) => {
+                self.rest = Some(rest);
+                Some(part)
             }
             None => {
                 self.rest = None;
-                Some(bytes)
+                Some(text)
             }
         }
     }
 }
 
-fn first_slash(bytes: &[u8]) -> Option<usize>
-    ensures place { result ≡ position is_slash bytes.now }
-    ensures within { IfSome result (λ at. at < length bytes.now) }
-    ensures room { IfSome result (λ at. at + 1 < 2 ^ 64) }
-{
-    bytes.iter().position(|b| *b == b'/')
-}
-
 /// One part is not empty, `.` or `..`.
-pub fn is_segment(part: &[u8]) -> bool
+pub fn is_segment(part: &str) -> bool
     ensures { result ≡ is_segment part.now }
 {
-    !(part == b"".as_slice() || part == b".".as_slice() || part == b"..".as_slice())
+    !(part == "" || part == "." || part == "..")
 }
 
 /// All parts between slashes are segments.
-fn are_segments(bytes: &[u8]) -> bool
-    ensures { result ≡ list_all is_segment (segments_of bytes.now) }
+pub fn are_segments(text: &str) -> bool
+    ensures { result ≡ list_all is_segment (segments_of text.now) }
 {
-    for part in Segments::new(bytes) {
+    for part in Segments::new(text) {
         if !is_segment(part) {
             return false;
         }
@@ -80,10 +72,10 @@ fn are_segments(bytes: &[u8]) -> bool
 }
 
 /// No part between slashes is hidden by a dot.
-fn are_visible(bytes: &[u8]) -> bool
-    ensures { result ≡ list_all is_visible (segments_of bytes.now) }
+fn are_visible(text: &str) -> bool
+    ensures { result ≡ list_all is_visible (segments_of text.now) }
 {
-    for part in Segments::new(bytes) {
+    for part in Segments::new(text) {
         if !is_visible(part) {
             return false;
         }
@@ -91,32 +83,24 @@ fn are_visible(bytes: &[u8]) -> bool
     true
 }
 
-/// The text begins as each path does.
-pub fn has_front(text: &str) -> bool
-    ensures { result ≡ has_front text.now }
+/// What stands behind the front of a text that begins as each path does.
+pub fn behind_front(text: &str) -> Option<&str>
+    ensures { MatchOption result (has_front text.now ≡ false) (λ rest. IsTrue (has_front text.now) × (rest.now ≡ drop 6 text.now)) }
 {
-    text.as_bytes().starts_with(b"res://")
-}
-
-/// The parts behind the front are segments.
-pub fn has_segments(text: &str) -> bool
-    requires { IsTrue (has_front text.now) }
-    ensures { result ≡ has_segments text.now }
-{
-    are_segments(&text.as_bytes()[6..])
+    text.strip_prefix(FRONT)
 }
 
 /// The text is a path.
 pub fn is_res_path(text: &str) -> bool
     ensures { result ≡ is_res_path text.now }
 {
-    has_front(text) && has_segments(text)
+    behind_front(text).is_some_and(are_segments)
 }
 
-fn is_visible(part: &[u8]) -> bool
+fn is_visible(part: &str) -> bool
     ensures { result ≡ is_visible part.now }
 {
-    !part.starts_with(b".")
+    !part.as_bytes().starts_with(b".")
 }
 
 /// The text ends as a script's path does.
@@ -137,9 +121,8 @@ pub fn is_scene_name(text: &str) -> bool
 pub fn is_source_path(text: &str) -> bool
     ensures { result ≡ is_source_path text.now }
 {
-    is_res_path(text)
-        && are_visible(&text.as_bytes()[6..])
-        && (is_script_name(text) || is_scene_name(text))
+    let is_named = is_script_name(text) || is_scene_name(text);
+    behind_front(text).is_some_and(|rest| are_segments(rest) && are_visible(rest) && is_named)
 }
 
 /// The path of a file that a project is made of: its settings, a script or a scene.
