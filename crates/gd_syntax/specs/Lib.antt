@@ -1,0 +1,5 @@
+pub mod ResPath
+pub mod Faults
+pub mod FirstTree
+pub mod FirstScript
+pub mod FirstGrammar
