@@ -3,3 +3,4 @@ pub mod Faults
 pub mod FirstTree
 pub mod FirstScript
 pub mod FirstGrammar
+pub mod FirstRun
