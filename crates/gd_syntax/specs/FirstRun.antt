@@ -1,7 +1,7 @@
 -- What a script of the first grammar prints, and how it ends.
 use Rattle.std.specs.Prelude.{ℕ, ◌+◌, ◌-◌, ℤ, ◌+ℤ◌, ◌-ℤ◌, ◌*ℤ◌, List, [], ◌∷◌, ◌++◌, length, take, drop, fold, codes}
 use Rattle.std.specs.List.{flat_map}
-use Rattle.std.specs.Fmt.{signed_decimal}
+use Rattle.std.specs.Fmt.{decimal, signed_decimal}
 use Rattle.std.specs.Int.{int_wrap, w64}
 
 use Rattle.gd_syntax.specs.declared.first.SumOp.{SumOp}
@@ -50,3 +50,8 @@ run_of script allowed = record {
   text = flat_map print_text (take (allowed - 1) script);
   end = end_before (1 + length script) allowed (drop (allowed - 1) script);
 }
+
+-- the outcome line of a run of the script at this path
+abbrev pub end_line : List ℕ → RunEnd → List ℕ
+end_line path (ended steps left) = codes "done steps " ++ decimal steps ++ codes " left " ++ decimal left ++ codes "\n"
+end_line path (spent line steps) = codes "spent " ++ path ++ codes ":" ++ decimal line ++ codes " steps " ++ decimal steps ++ codes "\n"
