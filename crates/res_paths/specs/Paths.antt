@@ -1,19 +1,13 @@
 -- Paths of a project: `res://` and segments parted by `/`, as Godot writes them (Godot manual, "File paths in Godot projects").
-use Rattle.std.specs.Prelude.{ℕ, Bool, not, ◌&&◌, ◌||◌, if◌then◌else◌, ◌==◌, List, [], ◌∷◌, codes, bytes_eq, nat_eq, drop}
-use Rattle.std.specs.List.{starts_with, ends_with, list_all}
+use Rattle.std.specs.Prelude.{ℕ, Bool, not, ◌&&◌, ◌||◌, ◌==◌, List, codes, bytes_eq, nat_eq, drop}
+use Rattle.std.specs.List.{starts_with, ends_with, list_all, slice_split}
 
 abbrev pub is_slash : ℕ → Bool
 is_slash b = b == 47
 
--- the first of these segments, with one more byte in front
-abbrev pub longer : ℕ → List (List ℕ) → List (List ℕ)
-longer b [] = (b ∷ []) ∷ []
-longer b (segment ∷ segments) = (b ∷ segment) ∷ segments
-
 -- the parts between slashes, of which there is one more than there are slashes
 abbrev pub segments_of : List ℕ → List (List ℕ)
-segments_of [] = [] ∷ []
-segments_of (b ∷ bs) = if is_slash b then [] ∷ segments_of bs else longer b (segments_of bs)
+segments_of bytes = slice_split is_slash bytes
 
 -- not empty, `.` or `..`
 abbrev pub is_segment : List ℕ → Bool

@@ -2,55 +2,14 @@
 #![tactic(auto)]
 
 ghost use Rattle.std.specs.Prelude.{◌≡◌, MatchOption, IsTrue, drop, false};
-ghost use Rattle.std.specs.List.{list_all, position};
-ghost use Rattle.std.specs.Iterator.{YieldsFirstRef, item_count};
-ghost use Rattle.res_paths.specs.Paths.{is_slash, segments_of, is_segment, is_visible, has_front, has_segments, is_res_path, is_script_name, is_scene_name, is_source_path, is_project_path, project_file};
+ghost use Rattle.std.specs.List.{list_all};
+ghost use Rattle.res_paths.specs.Paths.{segments_of, is_segment, is_visible, has_front, has_segments, is_res_path, is_script_name, is_scene_name, is_source_path, is_project_path, project_file};
 
 /// What each path begins with.
 pub const FRONT: &str = "res://";
 
 /// The path of a project's settings.
 pub const PROJECT_FILE: &str = "res://project.godot";
-
-/// The parts of a text between slashes, of which there is one more than there are slashes.
-#[derive(Drop)]
-pub struct Segments<'a> {
-    rest: Option<&'a str>,
-}
-
-impl<'a> Segments<'a> {
-    ghost use Rattle.res_paths.specs.Segments.{segments_left};
-
-    pub fn new(text: &'a str) -> Self
-        ensures { segments_left result ≡ segments_of text.now }
-    {
-        Segments { rest: Some(text) }
-    }
-}
-
-impl<'a> Iterator for Segments<'a> {
-    ghost use Rattle.res_paths.specs.Segments.{segments_left};
-
-    type Item = &'a str;
-
-    ghost next_gives = { YieldsFirstRef segments_left };
-
-    ghost remaining = { item_count segments_left };
-
-    fn next(&mut self) -> Option<&'a str> {
-        let text = self.rest?;
-        match text.split_once('/') {
-            Some((part, rest)) => {
-                self.rest = Some(rest);
-                Some(part)
-            }
-            None => {
-                self.rest = None;
-                Some(text)
-            }
-        }
-    }
-}
 
 /// One part is not empty, `.` or `..`.
 pub fn is_segment(part: &str) -> bool
@@ -63,24 +22,14 @@ pub fn is_segment(part: &str) -> bool
 pub fn are_segments(text: &str) -> bool
     ensures { result ≡ list_all is_segment (segments_of text.now) }
 {
-    for part in Segments::new(text) {
-        if !is_segment(part) {
-            return false;
-        }
-    }
-    true
+    text.split('/').all(is_segment)
 }
 
 /// No part between slashes is hidden by a dot.
 fn are_visible(text: &str) -> bool
     ensures { result ≡ list_all is_visible (segments_of text.now) }
 {
-    for part in Segments::new(text) {
-        if !is_visible(part) {
-            return false;
-        }
-    }
-    true
+    text.split('/').all(is_visible)
 }
 
 /// What stands behind the front of a text that begins as each path does.
