@@ -1,0 +1,4 @@
+pub mod Held
+pub mod InOrder
+pub mod Listed
+pub mod Once
