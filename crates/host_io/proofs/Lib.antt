@@ -2,3 +2,4 @@ pub mod Held
 pub mod InOrder
 pub mod Listed
 pub mod Once
+pub mod Written

@@ -1,0 +1,9 @@
+//! Runs scripts.
+#![tactic(auto)]
+
+mod machine;
+mod report;
+mod values;
+
+pub use machine::{CodePlace, Ending, Machine, Program};
+pub use report::ending_line;
