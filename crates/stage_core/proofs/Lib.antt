@@ -1,0 +1,13 @@
+pub mod Collect
+pub mod CoreSteps
+pub mod Grow
+pub mod Legal
+pub mod Load
+pub mod NeedOutcomes
+pub mod NeedValues
+pub mod Progress
+pub mod Reach
+pub mod Room
+pub mod Scan
+pub mod Schedule
+pub mod Sound

@@ -1,0 +1,7 @@
+use Rattle.std.proofs.Common.{◌≡◌, [], take}
+use Rattle.stage_core.specs.Rows.{log_of}
+use Rattle.stage_core.specs.Machine.{outcomes}
+use Rattle.stage_core.proofs.log_rows.first_outcome.Given as goal
+
+abbrev pub invariant-loop-row : goal.invariant-loop-row
+invariant-loop-row g l = outcomes (log_of (take l.row-index l.rows)) l.file ≡ []

@@ -1,0 +1,11 @@
+use Rattle.std.proofs.Common.{◌≡◌, ◌≤◌, length, take}
+use Rattle.stage_core.specs.Rows.{log_of}
+use Rattle.stage_core.specs.Machine.{outcomes}
+use Rattle.stage_core.proofs.needs.outcome_at.Given as goal
+
+abbrev pub invariant-loop-row : goal.invariant-loop-row
+invariant-loop-row g l = record {
+  count : l.before ≡ length (outcomes (log_of (take l.row-index l.rows)) l.file);
+  short : l.before ≤ l.place;
+  few : l.before ≤ l.row-index;
+}

@@ -1,0 +1,14 @@
+pub mod Begins
+pub mod CoreState
+pub mod FileSets
+pub mod Load
+pub mod Log
+pub mod Machine
+pub mod Needs
+pub mod Paths
+pub mod Rows
+pub mod Schedule
+pub mod Stages
+pub mod Star
+pub mod Status
+pub mod Value
