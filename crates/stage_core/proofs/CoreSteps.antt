@@ -15,16 +15,13 @@ use Rattle.stage_core.specs.CoreState.{IsCoreState, AreInRange, state}
 use Rattle.stage_core.proofs.Legal.{Laws, known_in, edges_in, walks_in, requested_in}
 use Rattle.stage_core.proofs.Progress.{progress}
 use Rattle.stage_core.proofs.Sound.{requested_sound, claimed_sound, published_sound, given_back_sound, ready_is_open, start_sound}
-use Rattle.stage_core.proofs.Room.{room}
+use Rattle.stage_core.proofs.Room.{room, few}
 
 pub log_push : {O : Type 0} (rows : List (LogRow O)) (x : LogRow O) → log_of (rows ++ x ∷ []) ≡ log_of rows ++ entry_of x ∷ []
 log_push rows x = map-append entry_of rows (x ∷ [])
 
 pub log_grows : {O P : Type 0} (s old : State P O) (rows more : List (LogRow O)) (x : LogRow O) → s ≡ old → s.log ≡ log_of rows → more ≡ rows ++ x ∷ [] → Begins old.log (log_of more)
 log_grows s old rows more x view is e = record { rest = entry_of x ∷ []; joins = rw (← view, is, e) (sym (log_push rows x)) }
-
-pub prefix_joins : {X : Type 0} (xs ys zs : List X) → Begins xs ys → Begins ys zs → Begins xs zs
-prefix_joins xs ys zs p q = record { rest = p.rest ++ q.rest; joins = rw (← q.joins, ← p.joins, append_assoc) refl }
 
 module _ {O P : Type 0} (g : Ghosts O P) (laws : Laws g) (project : P) (rows : List (LogRow O)) (in_progress : List ℕ) (files lr kr mr : ℕ) (held : IsCoreState g (state project (log_of rows) in_progress) files lr kr mr) where
   log : List (Entry O)
@@ -101,3 +98,6 @@ module _ {O P : Type 0} (g : Ghosts O P) (laws : Laws g) (project : P) (rows : L
 
 pub held_start : {O P : Type 0} (g : Ghosts O P) (project : P) (files lr kr mr : ℕ) → files ≡ g.files project → 11 * files ≤ lr → files ≤ kr → files ≤ mr → IsCoreState g (state project [] (replicate files 0)) files lr kr mr
 held_start g project files lr kr mr all l k m = record { sound = rw all (start_sound g project); all_files = all; rows = l; known_files = k; visited = m }
+
+pub log_few : {O P : Type 0} (g : Ghosts O P) (laws : Laws g) (s : State P O) (files lr kr mr : ℕ) → IsCoreState g s files lr kr mr → length s.log ≤ 11 * g.files s.project
+log_few g laws s files lr kr mr held = few g s.project laws s.log held.sound.legal

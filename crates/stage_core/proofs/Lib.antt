@@ -3,6 +3,7 @@ pub mod CoreSteps
 pub mod Grow
 pub mod Legal
 pub mod Load
+pub mod Logs
 pub mod NeedOutcomes
 pub mod NeedValues
 pub mod Progress

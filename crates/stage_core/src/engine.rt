@@ -82,6 +82,7 @@ impl<O: StageOut> Core<O> {
     pub fn request(&mut self, file: u32)
         requires { file < O.files self.old.project }
         ensures after { self.new ≡ requested self.old file }
+        ensures project { self.new.project ≡ self.old.project }
         ensures grows { Begins self.old.log self.new.log }
         ensures extends { (earlier : List (Entry O)) → Begins earlier self.old.log → Begins earlier self.new.log }
     {
@@ -101,6 +102,7 @@ impl<O: StageOut> Core<O> {
         ensures nothing_ready { (result ≡ Err NoClaim.NothingReady) ↔ (((file stage : ℕ) → IsReady O.StageOut self.old.log self.old.in_progress file stage → ⊥) × (result ≢ Err NoClaim.AllDone)) }
         ensures busy { result ≡ Err NoClaim.NothingReady → ((file : ℕ) × (stage : ℕ) × IsInProgress self.old.in_progress file stage) }
         ensures err { OnErr result (self.new ≡ self.old) }
+        ensures project { self.new.project ≡ self.old.project }
         ensures grows { Begins self.old.log self.new.log }
         ensures extends { (earlier : List (Entry O)) → Begins earlier self.old.log → Begins earlier self.new.log }
     {
@@ -184,6 +186,8 @@ impl<O: StageOut> Core<O> {
         requires task { IsOpen O.StageOut self.old.log claim.file claim.stage }
         requires value { HoldsValue O.StageOut self.old.project claim.file claim.stage (value_of outcome) }
         ensures after { self.new ≡ published self.old claim.file claim.stage (value_of outcome) }
+        ensures project { self.new.project ≡ self.old.project }
+        ensures few { length self.new.log ≤ 11 * O.files self.new.project }
         ensures grows { Begins self.old.log self.new.log }
         ensures extends { (earlier : List (Entry O)) → Begins earlier self.old.log → Begins earlier self.new.log }
     {
@@ -205,6 +209,8 @@ impl<O: StageOut> Core<O> {
         requires task { IsOpen O.StageOut self.old.log claim.file claim.stage }
         ensures after { self.new ≡ given_back self.old claim.file claim.stage }
         ensures same { self.new.log ≡ self.old.log }
+        ensures project { self.new.project ≡ self.old.project }
+        ensures few { length self.new.log ≤ 11 * O.files self.new.project }
         ensures grows { Begins self.old.log self.new.log }
         ensures extends { (earlier : List (Entry O)) → Begins earlier self.old.log → Begins earlier self.new.log }
     {

@@ -1,8 +1,9 @@
-use Rattle.std.proofs.Common.{subst₂, arith, sym, ap, subst, ◌<◌, length}
+use Rattle.std.proofs.Common.{◌≤◌, ◌*◌, subst₂, arith, sym, ap, subst, ◌<◌, length}
+use Rattle.stage_core.specs.CoreState.{state}
 use Rattle.stage_core.specs.Rows.{log_of}
 use Rattle.stage_core.specs.Machine.{IsOpen, outcomes}
 use Rattle.stage_core.proofs.Legal.{Laws}
-use Rattle.stage_core.proofs.CoreSteps.{give_back_keeps, known_row}
+use Rattle.stage_core.proofs.CoreSteps.{log_few, give_back_keeps, known_row}
 use Rattle.stage_core.proofs.engine.Core.give_back.Goals as goal
 
 pub index_mut-requires : goal.index_mut-requires
@@ -25,3 +26,15 @@ invariant_of-self g c =
     let task : IsOpen g.O.StageOut (log_of i.rows.items) t.file t.stage = subst₂ (λ k s. IsOpen g.O.StageOut s.log k.file k.stage) (sym c.claim.view_is) (sym c.self.view_is) c.requires.task in
     let less : length (outcomes (log_of i.rows.items) t.file) < t.stage = subst (λ ls. length (outcomes (log_of ls) t.file) < t.stage) c.deref.ensures.value (omega (arith, c.outcome_count.ensures, c.if-stage-outcome_count.true)) in
     give_back_keeps g.O.StageOut laws i.project.value i.rows.items i.in_progress.items i.files _ _ _ c.self.invariant t.file t.stage task less
+
+pub returns-then-stage-outcome_count-clause-few : goal.returns-then-stage-outcome_count-clause-few
+returns-then-stage-outcome_count-clause-few g c =
+    let i = c.self.inside in
+    let laws : Laws g.O.StageOut = record { links_of_value = g.met.O.StageOut.links_of_value; walk_of_value = g.met.O.StageOut.walk_of_value; links_in_range = g.met.O.StageOut.links_in_range; walk_in_range = g.met.O.StageOut.walk_in_range; walk_within_links = g.met.O.StageOut.walk_within_links } in
+    log_few g.O.StageOut laws (state i.project.value (log_of i.rows.items) i.in_progress.items) i.files _ _ _ c.self.invariant
+
+pub returns-else-stage-outcome_count-clause-few : goal.returns-else-stage-outcome_count-clause-few
+returns-else-stage-outcome_count-clause-few g c =
+    let i = c.self.inside in
+    let laws : Laws g.O.StageOut = record { links_of_value = g.met.O.StageOut.links_of_value; walk_of_value = g.met.O.StageOut.walk_of_value; links_in_range = g.met.O.StageOut.links_in_range; walk_in_range = g.met.O.StageOut.walk_in_range; walk_within_links = g.met.O.StageOut.walk_within_links } in
+    subst (λ s. length s.log ≤ 11 * g.O.StageOut.files s.project) c.self.view_is (log_few g.O.StageOut laws (state i.project.value (log_of i.rows.items) i.in_progress.items) i.files _ _ _ c.self.invariant)

@@ -2,7 +2,8 @@ use Rattle.std.proofs.Common.{arith, refl, sym, subst, ◌≡◌, ◌<◌, ◌�
 use Rattle.stage_core.specs.Rows.{log_of}
 use Rattle.stage_core.specs.Machine.{is_requested}
 use Rattle.stage_core.proofs.Legal.{Laws}
-use Rattle.stage_core.proofs.CoreSteps.{log_grows, prefix_joins, request_room, request_keeps}
+use Rattle.stage_core.proofs.Logs.{prefix_joins}
+use Rattle.stage_core.proofs.CoreSteps.{log_grows, request_room, request_keeps}
 use Rattle.stage_core.proofs.engine.Core.request.Goals as goal
 
 pub push_reserved-requires : goal.push_reserved-requires

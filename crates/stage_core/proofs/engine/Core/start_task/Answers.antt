@@ -6,7 +6,8 @@ use Rattle.stage_core.proofs.Legal.{Laws}
 use Rattle.std.proofs.Common.{append-nil}
 use Rattle.stage_core.proofs.Grow.{outcomes-push, open_stays}
 use Rattle.stage_core.proofs.Sound.{ready_is_open}
-use Rattle.stage_core.proofs.CoreSteps.{log_grows, prefix_joins, claim_room, claim_keeps_new, claim_keeps_old, ready_row, log_push}
+use Rattle.stage_core.proofs.Logs.{prefix_joins}
+use Rattle.stage_core.proofs.CoreSteps.{log_grows, claim_room, claim_keeps_new, claim_keeps_old, ready_row, log_push}
 use Rattle.stage_core.specs.Log.{Claim}
 use Rattle.stage_core.proofs.engine.Core.start_task.Goals as goal
 
