@@ -9,6 +9,6 @@ pub mod Paths
 pub mod Rows
 pub mod Schedule
 pub mod Stages
-pub mod Star
+pub mod Sample
 pub mod Status
 pub mod Value

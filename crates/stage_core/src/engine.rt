@@ -53,6 +53,7 @@ impl<O: StageOut> Core<O> {
     pub fn new(alloc: Global, project: &O::Project, files: u32) -> Result<Core<O>, AllocError>
         requires { files ≡ O.files project.now }
         ensures start { IfOk result (λ core. core ≡ start O.StageOut project.now) }
+        ensures project { IfOk result (λ core. core.project ≡ project.now) }
         ensures idle { IfOk result (λ core. (file : ℕ) → slice_index core.in_progress file ≡ 0) }
     {
         let room = files as usize;
@@ -220,7 +221,8 @@ impl<O: StageOut> Core<O> {
             stage,
         } = claim;
         if stage as usize > outcome_count(&self.rows, file) {
-            self.in_progress[file as usize] = 0;
+            // Ready again.
+            self.in_progress[file as usize] = 0u8;
         }
     }
 

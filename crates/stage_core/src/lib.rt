@@ -10,8 +10,12 @@ mod log;
 mod log_rows;
 mod needs;
 mod ready;
+#[cfg(test)]
+mod sample;
 mod stage_work;
 mod status;
+#[cfg(test)]
+mod tests;
 mod thread_safety;
 mod work;
 
