@@ -4,7 +4,7 @@ use Rattle.std.proofs.lemmas.Bool.Decides.{eqb_tells}
 use Rattle.std.proofs.lemmas.List.Elements.{Contains-push_cases, filter-append}
 use Rattle.stage_core.specs.declared.work.StageOut.{Ghosts}
 use Rattle.stage_core.specs.Log.{State, Entry, OutcomeValue, Request, Claim, Publish, Event, Requests, Claims, Publishes, GivesBack}
-use Rattle.stage_core.specs.Machine.{outcomes, HoldsValue, after, run, start, MayFollow, IsLegal, empty, grows, AreAllowed}
+use Rattle.stage_core.specs.Machine.{outcomes, HoldsValue, after, run, start, MayFollow, IsLegal, empty, grows, AreAllowed, IsSound}
 use Rattle.stage_core.specs.Schedule.{publishes, IsConsistent}
 use Rattle.stage_core.proofs.Grow.{outcomes-push}
 use Rattle.stage_core.proofs.Legal.{Laws, five_at_most}
@@ -61,15 +61,18 @@ module _ {O P : Type 0} (g : Ghosts O P) (project : P) where
   counts log empty file stage = record { few = omega arith; none_yet = λ l. refl }
   counts log (grows old e l m) file stage = counted old e m file stage (counts old l file stage)
 
+pub sound_is_consistent : {O P : Type 0} (g : Ghosts O P) → Laws g → (s : State P O) → IsSound g s → IsConsistent g s.project s
+sound_is_consistent g laws s sound = record {
+  same = refl;
+  values = λ file stage o c. values_in g s.project s.log sound.legal file stage o c;
+  once = λ file stage. (counts g s.project s.log sound.legal file stage).few;
+  five = λ file. five_at_most g s.project s.log sound.legal file;
+  goes_on = λ file known undone. progress g laws s sound.legal (length (outcomes s.log file) + 1) file (omega arith) known undone;
+}
+
 pub consistent : {O P : Type 0} (g : Ghosts O P) → Laws g → (project : P) (events : List (Event O)) → AreAllowed g (start g project) events → IsConsistent g project (run (start g project) events)
 consistent g laws project events allowed =
     let s = run (start g project) events in
     let sound = run_sound g laws events (start g project) (start_sound g project) allowed in
     let same : s.project ≡ project = run_project events (start g project) in
-    record {
-      same = same;
-      values = λ file stage o c. subst (λ p. HoldsValue g p file stage o) same (values_in g s.project s.log sound.legal file stage o c);
-      once = λ file stage. (counts g s.project s.log sound.legal file stage).few;
-      five = λ file. five_at_most g s.project s.log sound.legal file;
-      goes_on = λ file known undone. progress g laws s sound.legal (length (outcomes s.log file) + 1) file (omega arith) known undone;
-    }
+    subst (λ p. IsConsistent g p s) same (sound_is_consistent g laws s sound)

@@ -1,3 +1,4 @@
+-- What a core and a claim are to contracts, and what holds of each core.
 use Rattle.std.specs.Prelude.{◌≡◌, ℕ, ◌*◌, ◌≤◌, ◌<◌, true, List, Contains}
 use Rattle.stage_core.specs.declared.work.StageOut.{Ghosts}
 use Rattle.stage_core.specs.Log.{State, Entry}

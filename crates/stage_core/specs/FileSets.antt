@@ -1,3 +1,4 @@
+-- Lists of files as sets.
 use Rattle.std.specs.Prelude.{◌≡◌, ℕ, zero, suc, ◌+◌, Bool, List, [], ◌∷◌, ◌++◌, length, cond, ◌==◌}
 use Rattle.std.specs.List.{list_any}
 

@@ -1,3 +1,4 @@
+-- The log, what it says of files and tasks, and what each event leaves.
 use Rattle.std.specs.Prelude.{◌≡◌, ℕ, ◌+◌, ◌-◌, ◌<◌, ◌≤◌, ◌⊎◌, Bool, true, false, ◌||◌, ◌&&◌, if◌then◌else◌, ◌==◌, nat_le, List, [], ◌∷◌, ◌++◌, length, take, filter_map, slice_index, slice_set, Option, Some, None, replicate}
 use Rattle.std.specs.List.{list_any}
 use Rattle.stage_core.specs.declared.work.StageOut.{Ghosts}
@@ -15,6 +16,7 @@ outcome_in file (Publish f k o) = if f == file then Some o else None
 unfoldable pub outcomes : {O : Type 0} → List (Entry O) → ℕ → List (OutcomeValue O)
 outcomes log file = filter_map (outcome_in file) log
 
+-- the entry requests the file
 abbrev pub is_request_of : {O : Type 0} → ℕ → Entry O → Bool
 is_request_of file (Request f) = f == file
 is_request_of file (Claim f k) = false
@@ -24,6 +26,7 @@ is_request_of file (Publish f k o) = false
 unfoldable pub is_requested : {O : Type 0} → List (Entry O) → ℕ → Bool
 is_requested log file = list_any (is_request_of file) log
 
+-- the entry claims the task
 abbrev pub is_claim_of : {O : Type 0} → ℕ → ℕ → Entry O → Bool
 is_claim_of file stage (Request f) = false
 is_claim_of file stage (Claim f k) = (f == file) && (k == stage)
@@ -58,6 +61,7 @@ first_files files_of (Block ∷ os) = []
 unfoldable pub edges : {O : Type 0} → (O → List ℕ) → List (Entry O) → ℕ → List ℕ
 edges files_of log file = first_files files_of (outcomes log file)
 
+-- the file has this stage under way
 pub record IsInProgress (in_progress : List ℕ) (file stage : ℕ) : Type 0 where
   pub some : 1 ≤ stage
   pub held : slice_index in_progress file ≡ stage
@@ -107,9 +111,11 @@ module _ {O P : Type 0} (g : Ghosts O P) where
 
 -- What each event leaves. The calls of the core say by these what they do.
 module _ {P O : Type 0} where
+  -- a first request is logged
   abbrev pub requested : State P O → ℕ → State P O
   requested s file = record s { log = if is_requested s.log file then s.log else s.log ++ Request file ∷ [] }
 
+  -- the task is under way, and its first claim is logged
   abbrev pub claimed : State P O → ℕ → ℕ → State P O
   claimed s file stage = record {
     project = s.project;
@@ -121,12 +127,14 @@ module _ {P O : Type 0} where
   abbrev pub is_published : State P O → ℕ → ℕ → Bool
   is_published s file stage = nat_le stage (length (outcomes s.log file))
 
+  -- the outcome is logged and the task ends, unless the stage is in the log already
   abbrev pub published : State P O → ℕ → ℕ → OutcomeValue O → State P O
   published s file stage o =
       if is_published s file stage
       then s
       else record { project = s.project; log = s.log ++ Publish file stage o ∷ []; in_progress = slice_set s.in_progress file 0 }
 
+  -- the task ends, unless the stage is in the log already
   abbrev pub given_back : State P O → ℕ → ℕ → State P O
   given_back s file stage = if is_published s file stage then s else record s { in_progress = slice_set s.in_progress file 0 }
 
@@ -153,6 +161,7 @@ module _ {O P : Type 0} (g : Ghosts O P) where
   AreAllowed s [] = Unit {0}
   AreAllowed s (e ∷ es) = IsAllowed s e × AreAllowed (after s e) es
 
+  -- no entry, and no task under way
   abbrev pub start : P → State P O
   start project = record { project = project; log = []; in_progress = replicate (g.files project) 0 }
 

@@ -1,3 +1,4 @@
+-- What a task gets of the files that it needs, by the log.
 use Rattle.std.specs.Prelude.{◌≡◌, ℕ, ◌-◌, ◌↔◌, List, length, map, min, All, Contains, Option, Some, slice_get}
 use Rattle.stage_core.specs.declared.work.StageOut.{Ghosts}
 use Rattle.stage_core.specs.declared.work.Need.{Need}

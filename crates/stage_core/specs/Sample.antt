@@ -9,7 +9,7 @@ use Rattle.gd_syntax.specs.declared.fault.FaultKind.TheVariants.{Unbuilt}
 use Rattle.stage_core.specs.declared.work.StageValue.{StageValue}
 use Rattle.stage_core.specs.declared.work.StageValue.TheVariants.{Done, Refused, Blocked, Absent}
 use Rattle.stage_core.specs.Paths.{path_order}
-use Rattle.stage_core.specs.Stages.{Reaches, here, on, value_edges, IsBlockedBy}
+use Rattle.stage_core.specs.Stages.{Reaches, here, on, is_stop, value_edges, IsBlockedBy, IsStoppedBefore}
 
 abbrev pub sample_files : Bool → ℕ
 sample_files tangled = cond tangled 4 3
@@ -67,6 +67,27 @@ absent_later true f j k l bad =
           let over : nat_le k d ≡ false = grind (arith, nat_tests) in
           let past : eqb k (d + 1) ≡ false = grind (arith, nat_tests) in
           rw (over, past) refl
+    ] refl
+
+stop_next : (f : ℕ) → is_stop (tangled_value f (done_stages f + 1)) ≡ true
+stop_next f =
+    let over : nat_le (done_stages f + 1) (done_stages f) ≡ false = grind (arith, nat_tests) in
+    let same : eqb (done_stages f + 1) (done_stages f + 1) ≡ true = grind (arith, nat_tests) in
+    rw (over, same) (elim (eqb f 2) as (λ a. is_stop (cond a (Refused sample_fault) Blocked) ≡ true) [ true ↦ refl | false ↦ refl ])
+
+pub stopped_before : (t : Bool) (f k : ℕ) → f < sample_files t → sample_value t f k ≡ Absent → IsStoppedBefore (sample_value t) f k
+stopped_before false f k l e = cc
+stopped_before true f k l e =
+    let d = done_stages f in
+    elim (nat_le k (d + 1)) as (λ a. nat_le k (d + 1) ≡ a → IsStoppedBefore (sample_value true) f k) [
+      | true ↦ λ le. absurd (elim (nat_le k d) as (λ a. nat_le k d ≡ a → ⊥) [
+        | true ↦ λ w. let bad : Done ≡ Absent = subst (λ b. cond b Done (cond (eqb k (d + 1)) (cond (eqb f 2) (Refused sample_fault) Blocked) Absent) ≡ Absent) w e in cc
+        | false ↦ λ w.
+            let is : k ≡ d + 1 = grind (arith, nat_tests) in
+            let stop : is_stop Absent ≡ true = subst (λ v. is_stop v ≡ true) e (subst (λ z. is_stop (tangled_value f z) ≡ true) (sym is) (stop_next f)) in
+            cc
+      ] refl)
+      | false ↦ λ le. record { at = d + 1; from_one = omega arith; earlier = grind (arith, nat_tests); stopped = stop_next f }
     ] refl
 
 -- each of the two files that lead to each other leads to the refused one

@@ -1,8 +1,10 @@
+-- What holds after any events.
 use Rattle.std.specs.Prelude.{◌≡◌, ℕ, ◌≤◌, Bool, false, ◌&&◌, ◌==◌, length, Contains, filter}
 use Rattle.stage_core.specs.declared.work.StageOut.{Ghosts}
 use Rattle.stage_core.specs.Log.{OutcomeValue, Entry, Request, Claim, Publish, State}
 use Rattle.stage_core.specs.Machine.{outcomes, is_done_at, IsKnown, HoldsValue, HasWork}
 
+-- the entry publishes the stage
 abbrev pub publishes : {O : Type 0} → ℕ → ℕ → Entry O → Bool
 publishes file stage (Request f) = false
 publishes file stage (Claim f k) = false

@@ -27,6 +27,13 @@ is_stop Blocked = true
 is_stop Absent = false
 
 module _ (value : ℕ → ℕ → StageValue) where
+  -- the file was refused or blocked at an earlier stage
+  pub record IsStoppedBefore (file stage : ℕ) : Type 0 where
+    pub at : ℕ
+    pub from_one : 1 ≤ at
+    pub earlier : at < stage
+    pub stopped : is_stop (value file at) ≡ true
+
   -- from a file to the files that its stage 1 names
   unfoldable pub value_edges : (ℕ → List ℕ) → ℕ → List ℕ
   value_edges files_of file = if_done (value file 1) (files_of file)

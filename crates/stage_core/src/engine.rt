@@ -3,6 +3,7 @@ ghost use Rattle.std.specs.Prelude.{◌≡◌, ◌≢◌, ℕ, ◌+◌, ◌*◌,
 ghost use Rattle.stage_core.specs.Log.{value_of, Entry};
 ghost use Rattle.stage_core.specs.Needs.{AreNeeds};
 ghost use Rattle.stage_core.specs.Begins.{Begins};
+ghost use Rattle.stage_core.specs.Schedule.{IsConsistent};
 ghost use Rattle.stage_core.specs.Status.{status_of};
 ghost use Rattle.stage_core.specs.Load.{IsAnswer, InClosure};
 ghost use Rattle.stage_core.specs.Value.{IsTaskOf, AreNeedsOf};
@@ -77,6 +78,15 @@ impl<O: StageOut> Core<O> {
         ensures few { result ≤ 11 * O.files self.now.project }
     {
         self.rows.len() as u64
+    }
+
+    /// Each outcome in the log holds the project's value, no task is published twice, at most five outcomes of a file
+    /// are published, and while a known file is unfinished a task is ready or under way. It does nothing, and serves
+    /// proofs of callers.
+    pub fn is_consistent(&self)
+        ensures consistent { IsConsistent O.StageOut self.now.project self.now }
+    {
+        let _ = &self.project;
     }
 
     /// Makes a file known. A repeat changes nothing.

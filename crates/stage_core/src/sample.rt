@@ -23,7 +23,7 @@ pub struct SampleOut {
 }
 
 impl StageOut for SampleOut {
-    ghost use Rattle.stage_core.specs.Sample.{sample_files, sample_links, sample_path, sample_value, links_below, none_below, none_linked, absent_later, blocked_at, paths_up};
+    ghost use Rattle.stage_core.specs.Sample.{sample_files, sample_links, sample_path, sample_value, links_below, none_below, none_linked, absent_later, stopped_before, blocked_at, paths_up};
 
     type Project = Sample;
 
@@ -62,6 +62,8 @@ impl StageOut for SampleOut {
     ghost walk_within_links = { λ p f g c. none_linked f g (sample_links p.tangled f) c };
 
     ghost absent_after = { λ p f j k l one less five bad. absent_later p.tangled f j k less bad };
+
+    ghost absent_only_after = { λ p f k l one five e. stopped_before p.tangled f k l e };
 
     ghost blocked_by = { λ p f k l one five e. blocked_at p.tangled f k l one five e };
 

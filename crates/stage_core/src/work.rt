@@ -1,7 +1,7 @@
 //! What a stage gives: results, refusals, and what a project says of them.
 ghost use Rattle.std.specs.Prelude.{◌≡◌, ◌≢◌, ℕ, ◌<◌, ◌≤◌, ◌⊎◌, List, Contains};
 ghost use Rattle.std.specs.declared.cmp.Ordering.TheVariants.{Less};
-ghost use Rattle.stage_core.specs.Stages.{IsBlockedBy};
+ghost use Rattle.stage_core.specs.Stages.{IsBlockedBy, IsStoppedBefore};
 ghost use Rattle.stage_core.specs.declared.work.StageValue.TheVariants.{Done, Blocked, Absent};
 ghost use Rattle.stage_core.specs.Paths.{path_order};
 
@@ -68,6 +68,8 @@ pub trait StageOut: Drop {
     ghost walk_within_links: { (p : Self.Project) (f h : ℕ) → Contains (file_walk p f) h → (h ≡ f) ⊎ Contains (file_links p f) h };
 
     ghost absent_after: { (p : Self.Project) (f j k : ℕ) → f < files p → 1 ≤ j → j < k → k ≤ 5 → value p f j ≢ Done → value p f k ≡ Absent };
+
+    ghost absent_only_after: { (p : Self.Project) (f k : ℕ) → f < files p → 1 ≤ k → k ≤ 5 → value p f k ≡ Absent → IsStoppedBefore (value p) f k };
 
     ghost blocked_by: { (p : Self.Project) (f k : ℕ) → f < files p → 1 ≤ k → k ≤ 5 → value p f k ≡ Blocked → IsBlockedBy (value p) (file_links p) (file_walk p) f k };
 
