@@ -3,7 +3,6 @@ use Rattle.std.proofs.Common.{◌≡◌, ℕ, ◌+◌, ◌*◌, ◌<◌, ◌≤�
 use Rattle.std.proofs.lemmas.Bool.Decides.{nat_tests}
 use Rattle.std.proofs.lemmas.List.{map-append, length-map}
 use Rattle.stage_core.specs.Begins.{Begins}
-use Rattle.std.proofs.Common.{append_assoc, refl}
 use Rattle.stage_core.specs.declared.work.StageOut.{Ghosts}
 use Rattle.stage_core.specs.declared.work.Outcome.{Outcome}
 use Rattle.stage_core.specs.declared.log_rows.LogRow.{LogRow}

@@ -1,4 +1,4 @@
-use Rattle.std.proofs.Common.{◌≡◌, ◌≤◌}
+use Rattle.std.proofs.Common.{◌≡◌}
 use Rattle.stage_core.proofs.tests.run.Given as goal
 
 abbrev pub invariant-loop-tasks : goal.invariant-loop-tasks
