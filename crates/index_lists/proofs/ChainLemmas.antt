@@ -3,9 +3,9 @@ use Rattle.std.proofs.Common.{◌≡◌, ◌≢◌, ◌⊎◌, ℕ, zero, suc, �
 use Rattle.std.specs.List.{Contains, AllPairs}
 use Rattle.std.proofs.lemmas.Bool.{cases_eq}
 use Rattle.std.proofs.lemmas.List.Elements.{Contains-append_left, Contains-append_right, Contains-append_cases, Contains-push, Contains-push_cases}
-use Rattle.index_lists.specs.Lists.{without}
+use Rattle.index_lists.specs.Lists.{without, IsOnce}
 use Rattle.index_lists.specs.Chains.{Spot, spot, AreJoined, IsChain, Spells, Joins}
-use Rattle.index_lists.proofs.Nodes.{Contains-nil, Contains-first, Contains-rest, Contains-cons_cases, without-same, without-other, without-absent, Contains-from_without, Contains-without, IsOnce, IsOnce-first, IsOnce-rest, IsOnce-cons}
+use Rattle.index_lists.proofs.Nodes.{Contains-nil, Contains-first, Contains-rest, Contains-cons_cases, without-same, without-other, without-absent, Contains-from_without, Contains-without, IsOnce-first, IsOnce-rest, IsOnce-cons}
 
 -- the node, if there is one, is in the list of the head
 abbrev pub IsOwned : (ℕ → Option ℕ) → ℕ → Option ℕ → Type 0

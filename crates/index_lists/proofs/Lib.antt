@@ -1,5 +1,7 @@
 pub mod Nodes
-pub mod ChainLemmas
-pub mod SpellLemmas
-pub mod TableLemmas
-pub mod SoundLemmas
+pub mod RowLaws
+mod ChainLemmas
+mod SpellLemmas
+mod TableLemmas
+mod SoundLemmas
+mod PlainLemmas

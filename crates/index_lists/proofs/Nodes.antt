@@ -4,7 +4,7 @@ use Rattle.std.specs.List.{Contains, AllPairs, All}
 use Rattle.std.proofs.lemmas.Bool.{cases_eq}
 use Rattle.std.proofs.lemmas.List.Elements.{Contains-get_or}
 use Rattle.std.proofs.lemmas.List.Kept.{AllPairs-cons, AllPairs-filter}
-use Rattle.index_lists.specs.Lists.{without}
+use Rattle.index_lists.specs.Lists.{without, IsOnce}
 
 -- no node is in an empty list
 pub Contains-nil : (node : ℕ) → Contains [] node → ⊥
@@ -76,10 +76,6 @@ Contains-without node (first ∷ rest) other found differs =
           | inr later ↦ Contains-rest first (without node rest) other (Contains-without node rest other later differs)
         ])
     ]
-
--- no node stands twice
-abbrev pub IsOnce : List ℕ → Type 0
-IsOnce nodes = AllPairs (λ node later. node ≢ later) nodes
 
 pub IsOnce-first : (first : ℕ) (rest : List ℕ) → IsOnce (first ∷ rest) → Contains rest first → ⊥
 IsOnce-first first rest once found = once 0 (suc found.0) first (omega arith) (omega (arith, found.1)) (sym found.2)

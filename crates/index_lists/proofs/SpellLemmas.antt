@@ -3,9 +3,9 @@ use Rattle.std.proofs.Common.{◌≡◌, ◌≢◌, ◌⊎◌, ℕ, List, [], �
 use Rattle.std.specs.List.{Contains}
 use Rattle.std.proofs.lemmas.Bool.{cases_eq}
 use Rattle.std.proofs.lemmas.List.Elements.{Contains-append_left, Contains-push, Contains-push_cases}
-use Rattle.index_lists.specs.Lists.{without}
+use Rattle.index_lists.specs.Lists.{without, IsOnce}
 use Rattle.index_lists.specs.Chains.{Spot, spot, AreJoined, IsChain, Spells, Joins}
-use Rattle.index_lists.proofs.Nodes.{without-absent, Contains-from_without, Contains-without, IsOnce}
+use Rattle.index_lists.proofs.Nodes.{without-absent, Contains-from_without, Contains-without}
 use Rattle.index_lists.proofs.ChainLemmas.{IsOwned, spot-node, spots_apart, before_end, end_forth, before_node, after_node, node_forth, node_back, IsOnce-chain, IsChain-kept, IsChain-without, IsChain-push}
 
 same_some : (a b : ℕ) → ◌≡◌ {A = Option ℕ} (Some a) (Some b) → a ≡ b

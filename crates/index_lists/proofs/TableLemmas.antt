@@ -25,7 +25,7 @@ walk-chain links ends head left (first ∷ rest) (suc count) chain enough =
     ap (walk links (suc count)) chain.0.forth
     ∙ ap (λ nodes. first ∷ nodes) (walk-chain links ends head (Some first) rest count chain.1 (omega (arith, enough)))
 
-list_at-past : (lists : List (List ℕ)) (head node : ℕ) → Contains (list_at lists head) node → head < length lists
+pub list_at-past : (lists : List (List ℕ)) (head node : ℕ) → Contains (list_at lists head) node → head < length lists
 list_at-past lists head node found =
     elim (cases_lt head (length lists)) [
       | inl within ↦ within

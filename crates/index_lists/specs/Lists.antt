@@ -73,11 +73,15 @@ abbrev pub grown : Lists → ℕ → ℕ → Lists
 grown lists nodes heads =
     record lists { nodes = nodes; heads = heads; first = padded lists.first heads; second = padded lists.second heads }
 
+-- no node stands twice
+abbrev pub IsOnce : List ℕ → Type 0
+IsOnce nodes = AllPairs (λ node later. node ≢ later) nodes
+
 -- a node stands at one place at most of one list, and is in range
 pub record IsApart (nodes : ℕ) (list : ℕ → List ℕ) : Type 0 where
   pub below : (head node : ℕ) → Contains (list head) node → node < nodes
   pub one : (head other node : ℕ) → Contains (list head) node → Contains (list other) node → head ≡ other
-  pub once : (head : ℕ) → AllPairs (λ node later. node ≢ later) (list head)
+  pub once : (head : ℕ) → IsOnce (list head)
 
 -- each side has a list for each head, and is apart
 pub record AreSound (lists : Lists) : Type 0 where

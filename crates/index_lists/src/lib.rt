@@ -6,6 +6,10 @@ ghost use Rattle.index_lists.specs.Lists.{AreSound, IsLinked, list_of, empty_lis
 ghost use Rattle.index_lists.specs.Chains.{lists_from};
 
 mod chains;
+#[cfg(test)]
+mod plain;
+#[cfg(test)]
+mod tests;
 
 use chains::Chains;
 use std::alloc::{AllocError, Global};
