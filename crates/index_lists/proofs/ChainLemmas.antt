@@ -1,11 +1,10 @@
 -- Chains of neighbours: what they say of a node, and how they follow the joining of two neighbours.
-use Rattle.std.proofs.Common.{◌≡◌, ◌≢◌, ◌⊎◌, ℕ, zero, suc, ◌+◌, ◌<◌, ◌≤◌, List, [], ◌∷◌, ◌++◌, length, Option, Some, None, slice_get, refl, sym, ap, ◌∙◌, subst, inl, inr, arith}
-use Rattle.std.specs.List.{Contains, AllPairs}
+use Rattle.std.proofs.Common.{◌≡◌, ◌≢◌, ◌⊎◌, ℕ, List, [], ◌∷◌, ◌++◌, Option, Some, None, slice_get, refl, sym, ap, ◌∙◌, subst, inl, inr, arith}
+use Rattle.std.specs.List.{Contains}
 use Rattle.std.proofs.lemmas.Bool.{cases_eq}
-use Rattle.std.proofs.lemmas.List.Elements.{Contains-append_left, Contains-append_right, Contains-append_cases, Contains-push, Contains-push_cases}
 use Rattle.index_lists.specs.Lists.{without, IsOnce}
-use Rattle.index_lists.specs.Chains.{Spot, spot, AreJoined, IsChain, Spells, Joins}
-use Rattle.index_lists.proofs.Nodes.{Contains-nil, Contains-first, Contains-rest, Contains-cons_cases, without-same, without-other, without-absent, Contains-from_without, Contains-without, IsOnce-first, IsOnce-rest, IsOnce-cons}
+use Rattle.index_lists.specs.Chains.{Spot, spot, AreJoined, IsChain}
+use Rattle.index_lists.proofs.Nodes.{Contains-nil, Contains-first, Contains-rest, Contains-cons_cases, without-same, without-other, without-absent, IsOnce-first, IsOnce-rest, IsOnce-cons}
 
 -- the node, if there is one, is in the list of the head
 abbrev pub IsOwned : (ℕ → Option ℕ) → ℕ → Option ℕ → Type 0
@@ -61,10 +60,10 @@ module _ (next previous : Spot → Option ℕ) where
       elim (Contains-cons_cases first rest node found) [
         | inl here ↦ inl (ap (λ n. previous (inr n)) (sym here) ∙ chain.0.back)
         | inr later ↦
-          elim (before_node head (Some first) rest right node chain.1 later) [
-            | inl start ↦ inr (first, Contains-first first rest, start)
-            | inr among ↦ inr (among.0, Contains-rest first rest among.0 among.1, among.2)
-          ]
+            elim (before_node head (Some first) rest right node chain.1 later) [
+              | inl start ↦ inr (first, Contains-first first rest, start)
+              | inr among ↦ inr (among.0, Contains-rest first rest among.0 among.1, among.2)
+            ]
       ]
 
   -- after a node comes a node or the right end
@@ -79,10 +78,10 @@ module _ (next previous : Spot → Option ℕ) where
       elim (Contains-cons_cases first (second ∷ rest) node found) [
         | inl here ↦ inr (second, Contains-rest first (second ∷ rest) second (Contains-first second rest), ap (λ n. next (inr n)) (sym here) ∙ chain.1.0.forth)
         | inr later ↦
-          elim (after_node head (Some first) (second ∷ rest) right node chain.1 later) [
-            | inl end ↦ inl end
-            | inr among ↦ inr (among.0, Contains-rest first (second ∷ rest) among.0 among.1, among.2)
-          ]
+            elim (after_node head (Some first) (second ∷ rest) right node chain.1 later) [
+              | inl end ↦ inl end
+              | inr among ↦ inr (among.0, Contains-rest first (second ∷ rest) among.0 among.1, among.2)
+            ]
       ]
 
   -- from before a node the links lead to it
@@ -113,11 +112,11 @@ module _ (next previous : Spot → Option ℕ) where
   IsOnce-chain head left [] right chain fresh = λ i j d below within. absurd (omega (arith, within))
   IsOnce-chain head left (first ∷ rest) right chain fresh =
       let absent : Contains rest first → ⊥ =
-          λ found.
-              elim (before_node head (Some first) rest right first chain.1 found) as (λ _. ⊥) [
-                | inl start ↦ fresh first (sym chain.0.back ∙ start) (Contains-first first rest)
-                | inr among ↦ fresh among.0 (sym chain.0.back ∙ among.2) (Contains-rest first rest among.0 among.1)
-              ] in
+      λ found.
+      elim (before_node head (Some first) rest right first chain.1 found) as (λ _. ⊥) [
+        | inl start ↦ fresh first (sym chain.0.back ∙ start) (Contains-first first rest)
+        | inr among ↦ fresh among.0 (sym chain.0.back ∙ among.2) (Contains-rest first rest among.0 among.1)
+      ] in
       IsOnce-cons first rest absent
       (IsOnce-chain head (Some first) rest right chain.1
       (λ node same found. let one : first ≡ node = cc in absent (subst (λ n. Contains rest n) (sym one) found)))
@@ -128,17 +127,18 @@ module _ (next previous : Spot → Option ℕ) where
     IsChain-kept P head nexts previouses left [] right at_left at_nodes at_right chain =
         record { forth = nexts left at_left ∙ chain.forth; back = previouses right at_right ∙ chain.back }
     IsChain-kept P head nexts previouses left (first ∷ rest) right at_left at_nodes at_right chain =
-        let here = at_nodes first (Contains-first first rest) in
-        (record { forth = nexts left at_left ∙ chain.0.forth; back = previouses (Some first) here ∙ chain.0.back }
-        , IsChain-kept P head nexts previouses (Some first) rest right here (λ node found. at_nodes node (Contains-rest first rest node found)) at_right chain.1)
+        let here = at_nodes first (Contains-first first rest) in (
+          record { forth = nexts left at_left ∙ chain.0.forth; back = previouses (Some first) here ∙ chain.0.back },
+          IsChain-kept P head nexts previouses (Some first) rest right here (λ node found. at_nodes node (Contains-rest first rest node found)) at_right chain.1,
+        )
 
     -- a node is taken out of a chain, where its neighbours are joined and no other link changes
     module _ (head node : ℕ)
-      (joined : AreJoined next' previous' head (previous (inr node)) (next (inr node)))
-      (nexts : (at : Spot) → at ≢ inr node → at ≢ spot head (previous (inr node)) → next' at ≡ next at)
-      (previouses : (at : Spot) → at ≢ inr node → at ≢ spot head (next (inr node)) → previous' at ≡ previous at)
-      (forth : next (spot head (previous (inr node))) ≡ Some node)
-      (back : previous (spot head (next (inr node))) ≡ Some node) where
+        (joined : AreJoined next' previous' head (previous (inr node)) (next (inr node)))
+        (nexts : (at : Spot) → at ≢ inr node → at ≢ spot head (previous (inr node)) → next' at ≡ next at)
+        (previouses : (at : Spot) → at ≢ inr node → at ≢ spot head (next (inr node)) → previous' at ≡ previous at)
+        (forth : next (spot head (previous (inr node))) ≡ Some node)
+        (back : previous (spot head (next (inr node))) ≡ Some node) where
       AreJoined-kept : (left right : Option ℕ) → left ≢ Some node → right ≢ Some node → AreJoined next previous head left right → AreJoined next' previous' head left right
       AreJoined-kept left right not_left not_right pair = record {
         forth = nexts (spot head left) (λ same. not_left (spot-node head node left same)) (λ same. not_right (sym pair.forth ∙ ap next same ∙ forth)) ∙ pair.forth;
@@ -152,9 +152,10 @@ module _ (next previous : Spot → Option ℕ) where
       IsChain-apart : (left : Option ℕ) (nodes : List ℕ) (right : Option ℕ) → left ≢ Some node → right ≢ Some node → (Contains nodes node → ⊥) → IsChain next previous head left nodes right → IsChain next' previous' head left nodes right
       IsChain-apart left [] right not_left not_right absent chain = AreJoined-kept left right not_left not_right chain
       IsChain-apart left (first ∷ rest) right not_left not_right absent chain =
-          let differs = not_node first (λ same. absent (subst (λ n. Contains (first ∷ rest) n) same (Contains-first first rest))) in
-          (AreJoined-kept left (Some first) not_left differs chain.0
-          , IsChain-apart (Some first) rest right differs not_right (λ found. absent (Contains-rest first rest node found)) chain.1)
+          let differs = not_node first (λ same. absent (subst (λ n. Contains (first ∷ rest) n) same (Contains-first first rest))) in (
+            AreJoined-kept left (Some first) not_left differs chain.0,
+            IsChain-apart (Some first) rest right differs not_right (λ found. absent (Contains-rest first rest node found)) chain.1,
+          )
 
       -- what follows the node now follows what came before it
       IsChain-closed : (left : Option ℕ) (rest : List ℕ) (right : Option ℕ) → previous (inr node) ≡ left → right ≢ Some node → (Contains rest node → ⊥) → IsChain next previous head (Some node) rest right → IsChain next' previous' head left rest right
@@ -162,50 +163,53 @@ module _ (next previous : Spot → Option ℕ) where
           subst (λ end. AreJoined next' previous' head end right) before
           (subst (λ end. AreJoined next' previous' head (previous (inr node)) end) chain.forth joined)
       IsChain-closed left (first ∷ rest) right before not_right absent chain =
-          let differs = not_node first (λ same. absent (subst (λ n. Contains (first ∷ rest) n) same (Contains-first first rest))) in
-          (subst (λ end. AreJoined next' previous' head end (Some first)) before
-          (subst (λ end. AreJoined next' previous' head (previous (inr node)) end) chain.0.forth joined)
-          , IsChain-apart (Some first) rest right differs not_right (λ found. absent (Contains-rest first rest node found)) chain.1)
+          let differs = not_node first (λ same. absent (subst (λ n. Contains (first ∷ rest) n) same (Contains-first first rest))) in (
+            subst (λ end. AreJoined next' previous' head end (Some first)) before
+                (subst (λ end. AreJoined next' previous' head (previous (inr node)) end) chain.0.forth joined),
+            IsChain-apart (Some first) rest right differs not_right (λ found. absent (Contains-rest first rest node found)) chain.1,
+          )
 
       pub IsChain-without : (left : Option ℕ) (nodes : List ℕ) (right : Option ℕ) → left ≢ Some node → right ≢ Some node → IsOnce nodes → Contains nodes node → IsChain next previous head left nodes right → IsChain next' previous' head left (without node nodes) right
       IsChain-without left [] right not_left not_right once found chain = absurd (Contains-nil node found)
       IsChain-without left (first ∷ rest) right not_left not_right once found chain =
           elim (cases_eq first node) [
             | inl same ↦
-              let absent : Contains rest node → ⊥ = λ again. IsOnce-first first rest once (subst (λ n. Contains rest n) (sym same) again) in
-              let left_over : without node (first ∷ rest) ≡ rest = ap (λ n. without node (n ∷ rest)) same ∙ without-same node rest ∙ without-absent node rest absent in
-              subst (λ nodes. IsChain next' previous' head left nodes right) (sym left_over)
-              (IsChain-closed left rest right (ap (λ n. previous (inr n)) (sym same) ∙ chain.0.back) not_right absent
-              (subst (λ n. IsChain next previous head (Some n) rest right) same chain.1))
+                let absent : Contains rest node → ⊥ = λ again. IsOnce-first first rest once (subst (λ n. Contains rest n) (sym same) again) in
+                let left_over : without node (first ∷ rest) ≡ rest = ap (λ n. without node (n ∷ rest)) same ∙ without-same node rest ∙ without-absent node rest absent in
+                subst (λ nodes. IsChain next' previous' head left nodes right) (sym left_over)
+                (IsChain-closed left rest right (ap (λ n. previous (inr n)) (sym same) ∙ chain.0.back) not_right absent
+                (subst (λ n. IsChain next previous head (Some n) rest right) same chain.1))
             | inr differs ↦
-              subst (λ nodes. IsChain next' previous' head left nodes right) (sym (without-other node first rest differs))
-              (AreJoined-kept left (Some first) not_left (not_node first differs) chain.0
-              , IsChain-without (Some first) rest right (not_node first differs) not_right (IsOnce-rest first rest once)
-              (elim (Contains-cons_cases first rest node found) as (λ _. Contains rest node) [
-                | inl here ↦ absurd (differs here)
-                | inr later ↦ later
-              ]) chain.1)
+                subst (λ nodes. IsChain next' previous' head left nodes right) (sym (without-other node first rest differs)) (
+                  AreJoined-kept left (Some first) not_left (not_node first differs) chain.0,
+                  IsChain-without (Some first) rest right (not_node first differs) not_right (IsOnce-rest first rest once)
+                      (elim (Contains-cons_cases first rest node found) as (λ _. Contains rest node) [
+                        | inl here ↦ absurd (differs here)
+                        | inr later ↦ later
+                      ]) chain.1,
+                )
           ]
 
     -- a node is put at the end of a chain
     module _ (head node : ℕ)
-      (last : AreJoined next' previous' head (previous (inl head)) (Some node))
-      (end : AreJoined next' previous' head (Some node) None)
-      (nexts : (at : Spot) → at ≢ inr node → at ≢ spot head (previous (inl head)) → next' at ≡ next at)
-      (previouses : (at : Spot) → at ≢ inr node → at ≢ inl head → previous' at ≡ previous at)
-      (forth : next (spot head (previous (inl head))) ≡ None) where
+        (last : AreJoined next' previous' head (previous (inl head)) (Some node))
+        (end : AreJoined next' previous' head (Some node) None)
+        (nexts : (at : Spot) → at ≢ inr node → at ≢ spot head (previous (inl head)) → next' at ≡ next at)
+        (previouses : (at : Spot) → at ≢ inr node → at ≢ inl head → previous' at ≡ previous at)
+        (forth : next (spot head (previous (inl head))) ≡ None) where
       pub IsChain-push : (left : Option ℕ) (nodes : List ℕ) → left ≢ Some node → (Contains nodes node → ⊥) → IsChain next previous head left nodes None → IsChain next' previous' head left (nodes ++ node ∷ []) None
       IsChain-push left [] not_left absent chain =
           (subst (λ far. AreJoined next' previous' head far (Some node)) chain.back last, end)
       IsChain-push left (first ∷ rest) not_left absent chain =
           let differs : first ≢ node = λ same. absent (subst (λ n. Contains (first ∷ rest) n) same (Contains-first first rest)) in
           let not_last : spot head left ≢ spot head (previous (inl head)) =
-              λ same. let both : Some first ≡ None = sym chain.0.forth ∙ ap next same ∙ forth in cc in
+          λ same. let both : Some first ≡ None = sym chain.0.forth ∙ ap next same ∙ forth in cc in
           let not_first : Some first ≢ Some node = λ same. differs (cc) in
           let not_this : ◌≢◌ {A = Spot} (inr first) (inr node) = λ same. differs (cc) in
-          let not_head : ◌≢◌ {A = Spot} (inr first) (inl head) = λ same. cc in
-          (record {
-            forth = nexts (spot head left) (λ same. not_left (spot-node head node left same)) not_last ∙ chain.0.forth;
-            back = previouses (inr first) not_this not_head ∙ chain.0.back;
-          }
-          , IsChain-push (Some first) rest not_first (λ found. absent (Contains-rest first rest node found)) chain.1)
+          let not_head : ◌≢◌ {A = Spot} (inr first) (inl head) = λ same. cc in (
+            record {
+              forth = nexts (spot head left) (λ same. not_left (spot-node head node left same)) not_last ∙ chain.0.forth;
+              back = previouses (inr first) not_this not_head ∙ chain.0.back;
+            },
+            IsChain-push (Some first) rest not_first (λ found. absent (Contains-rest first rest node found)) chain.1,
+          )

@@ -1,6 +1,6 @@
 -- Lists of nodes: which nodes are left without one, and lists in which no node stands twice.
-use Rattle.std.proofs.Common.{◌≡◌, ◌≢◌, ◌⊎◌, ℕ, zero, suc, ◌+◌, ◌<◌, ◌≤◌, List, [], ◌∷◌, ◌++◌, length, get_or, cond, not, eqb, refl, sym, ap, ◌∙◌, subst, inl, inr, arith, eq-eqb, ne_eqb}
-use Rattle.std.specs.List.{Contains, AllPairs, All}
+use Rattle.std.proofs.Common.{◌≡◌, ◌≢◌, ◌⊎◌, ℕ, zero, suc, ◌<◌, ◌≤◌, List, [], ◌∷◌, length, get_or, cond, not, eqb, refl, sym, ap, ◌∙◌, subst, inl, inr, arith, eq-eqb, ne_eqb}
+use Rattle.std.specs.List.{Contains}
 use Rattle.std.proofs.lemmas.Bool.{cases_eq}
 use Rattle.std.proofs.lemmas.List.Elements.{Contains-get_or}
 use Rattle.std.proofs.lemmas.List.Kept.{AllPairs-cons, AllPairs-filter}
@@ -46,15 +46,15 @@ Contains-from_without node [] other found = absurd (Contains-nil other found)
 Contains-from_without node (first ∷ rest) other found =
     elim (cases_eq first node) [
       | inl same ↦
-        let kept = Contains-from_without node rest other (subst (λ nodes. Contains nodes other) (ap (λ n. without node (n ∷ rest)) same ∙ without-same node rest) found) in
-        (Contains-rest first rest other kept.0, kept.1)
+          let kept = Contains-from_without node rest other (subst (λ nodes. Contains nodes other) (ap (λ n. without node (n ∷ rest)) same ∙ without-same node rest) found) in
+          (Contains-rest first rest other kept.0, kept.1)
       | inr differs ↦
-        elim (Contains-cons_cases first (without node rest) other (subst (λ nodes. Contains nodes other) (without-other node first rest differs) found)) [
-          | inl here ↦ (subst (λ n. Contains (first ∷ rest) n) here (Contains-first first rest), λ same. differs (here ∙ same))
-          | inr later ↦
-            let kept = Contains-from_without node rest other later in
-            (Contains-rest first rest other kept.0, kept.1)
-        ]
+          elim (Contains-cons_cases first (without node rest) other (subst (λ nodes. Contains nodes other) (without-other node first rest differs) found)) [
+            | inl here ↦ (subst (λ n. Contains (first ∷ rest) n) here (Contains-first first rest), λ same. differs (here ∙ same))
+            | inr later ↦
+                let kept = Contains-from_without node rest other later in
+                (Contains-rest first rest other kept.0, kept.1)
+          ]
     ]
 
 -- every other node is left
@@ -63,18 +63,18 @@ Contains-without node [] other found differs = absurd (Contains-nil other found)
 Contains-without node (first ∷ rest) other found differs =
     elim (cases_eq first node) [
       | inl same ↦
-        subst (λ nodes. Contains nodes other) (sym (ap (λ n. without node (n ∷ rest)) same ∙ without-same node rest))
-        (Contains-without node rest other
-        (elim (Contains-cons_cases first rest other found) as (λ _. Contains rest other) [
-          | inl here ↦ absurd (differs (sym here ∙ same))
-          | inr later ↦ later
-        ]) differs)
+          subst (λ nodes. Contains nodes other) (sym (ap (λ n. without node (n ∷ rest)) same ∙ without-same node rest))
+          (Contains-without node rest other
+          (elim (Contains-cons_cases first rest other found) as (λ _. Contains rest other) [
+            | inl here ↦ absurd (differs (sym here ∙ same))
+            | inr later ↦ later
+          ]) differs)
       | inr apart ↦
-        subst (λ nodes. Contains nodes other) (sym (without-other node first rest apart))
-        (elim (Contains-cons_cases first rest other found) as (λ _. Contains (first ∷ without node rest) other) [
-          | inl here ↦ subst (λ n. Contains (first ∷ without node rest) n) here (Contains-first first (without node rest))
-          | inr later ↦ Contains-rest first (without node rest) other (Contains-without node rest other later differs)
-        ])
+          subst (λ nodes. Contains nodes other) (sym (without-other node first rest apart))
+          (elim (Contains-cons_cases first rest other found) as (λ _. Contains (first ∷ without node rest) other) [
+            | inl here ↦ subst (λ n. Contains (first ∷ without node rest) n) here (Contains-first first (without node rest))
+            | inr later ↦ Contains-rest first (without node rest) other (Contains-without node rest other later differs)
+          ])
     ]
 
 pub IsOnce-first : (first : ℕ) (rest : List ℕ) → IsOnce (first ∷ rest) → Contains rest first → ⊥
@@ -97,12 +97,12 @@ length-le-without node [] once = omega arith
 length-le-without node (first ∷ rest) once =
     elim (cases_eq first node) [
       | inl same ↦
-        let left : without node (first ∷ rest) ≡ rest =
-            ap (λ n. without node (n ∷ rest)) same ∙ without-same node rest
-            ∙ without-absent node rest (λ found. IsOnce-first first rest once (subst (λ n. Contains rest n) (sym same) found)) in
-        omega (arith, ap length left)
+          let left : without node (first ∷ rest) ≡ rest =
+          ap (λ n. without node (n ∷ rest)) same ∙ without-same node rest
+          ∙ without-absent node rest (λ found. IsOnce-first first rest once (subst (λ n. Contains rest n) (sym same) found)) in
+          omega (arith, ap length left)
       | inr differs ↦
-        omega (arith, ap length (without-other node first rest differs), length-le-without node rest (IsOnce-rest first rest once))
+          omega (arith, ap length (without-other node first rest differs), length-le-without node rest (IsOnce-rest first rest once))
     ]
 
 -- there are no more different nodes below a number than that number
@@ -111,9 +111,9 @@ length-once_le zero [] once below = omega arith
 length-once_le zero (first ∷ rest) once below = absurd (omega (arith, below first (Contains-first first rest)))
 length-once_le (suc limit) nodes once below =
     let fewer = length-once_le limit (without limit nodes) (IsOnce-without limit nodes once)
-        (λ node found.
-            let kept = Contains-from_without limit nodes node found in
-            let bound = below node kept.0 in
-            let differs : node ≢ limit = kept.1 in
-            omega (arith, bound)) in
+    (λ node found.
+    let kept = Contains-from_without limit nodes node found in
+    let bound = below node kept.0 in
+    let differs : node ≢ limit = kept.1 in
+    omega (arith, bound)) in
     omega (arith, fewer, length-le-without limit nodes once)

@@ -1,5 +1,5 @@
 -- Steps of the loops over lists of lists.
-use Rattle.std.proofs.Common.{◌≡◌, ℕ, suc, ◌+◌, ◌-◌, ◌<◌, List, [], ◌∷◌, ◌++◌, length, map, get_or, set, take, drop, replicate, refl, sym, ap, ◌∙◌, arith, append_assoc, length-set}
+use Rattle.std.proofs.Common.{◌≡◌, ℕ, suc, ◌+◌, ◌-◌, ◌<◌, List, [], ◌∷◌, ◌++◌, length, map, get_or, set, take, drop, replicate, sym, ap, ◌∙◌, arith, append_assoc}
 use Rattle.std.proofs.lemmas.List.{map-append, map-set, get_or-map, take_more, take_more_set, get_or-drop, drop-drop, drop-set-lt, length_push, length-map}
 use Rattle.index_lists.specs.Lists.{without, padded}
 
@@ -14,8 +14,8 @@ padded-push lists heads few =
     replicate_more n x = let more : n + 1 ≡ suc n = omega arith in ap (λ k. replicate k x) more
 
 module _ {X : Type 0} (f : X → List ℕ) (node : ℕ) (xs ys : List X) (i : ℕ) (x v : X)
-  (within : i < length xs) (len : length xs ≡ length ys) (read : x ≡ get_or xs i x) (left : f v ≡ without node (f (get_or xs i x)))
-  (rest : drop i xs ≡ drop i ys) where
+    (within : i < length xs) (len : length xs ≡ length ys) (read : x ≡ get_or xs i x) (left : f v ≡ without node (f (get_or xs i x)))
+    (rest : drop i xs ≡ drop i ys) where
   same_there : get_or ys i x ≡ x
   same_there =
       ap (λ n. get_or ys n x) (omega arith) ∙ sym (get_or-drop i ys 0 x) ∙ ap (λ l. get_or l 0 x) (sym rest) ∙ get_or-drop i xs 0 x

@@ -4,15 +4,15 @@
 --     IsLinked-..          which nodes are in a list after a call
 --     below_nodes, below_heads, one_head, once_in      a linked node is in range, in one list, and there once
 --     split_at, one_split  the place of a node in its list
-use Rattle.std.proofs.Common.{◌≡◌, ◌≢◌, ◌⊎◌, ℕ, zero, suc, ◌+◌, ◌-◌, ◌^◌, ◌<◌, ◌≤◌, min, List, [], ◌∷◌, ◌++◌, length, map, set, get_or, replicate, Option, Some, None, slice_get, refl, sym, ap, ◌∙◌, subst, inl, inr, arith, get_or-set_same, get_or-set_other}
+use Rattle.std.proofs.Common.{◌≡◌, ◌≢◌, ◌⊎◌, ℕ, ◌+◌, ◌-◌, ◌^◌, ◌<◌, ◌≤◌, List, [], ◌∷◌, ◌++◌, length, map, set, Some, None, slice_get, refl, sym, ap, ◌∙◌, subst, inl, inr, arith, get_or-set_same, get_or-set_other}
 use Rattle.std.specs.List.{Contains}
 use Rattle.std.proofs.lemmas.Bool.{cases_eq}
 use Rattle.std.proofs.lemmas.List.{append_cancel_left}
-use Rattle.std.proofs.lemmas.List.Elements.{Contains-append_left, Contains-append_right, Contains-append_cases, Contains-push, Contains-push_cases}
+use Rattle.std.proofs.lemmas.List.Elements.{Contains-append_left, Contains-append_right, Contains-push, Contains-push_cases}
 use Rattle.index_lists.specs.declared.Side.{Side}
 use Rattle.index_lists.specs.declared.Side.TheVariants.{First, Second}
-use Rattle.index_lists.specs.Lists.{Lists, lists_of, list_at, list_of, IsLinked, without, moved, with_lists, linked_last, unlinked, empty_lists, padded, grown, IsOnce, IsApart, AreSound}
-use Rattle.index_lists.proofs.Nodes.{Contains-nil, Contains-first, Contains-rest, Contains-cons_cases, without-same, without-other, without-absent, Contains-from_without, Contains-without, IsOnce-first, IsOnce-rest}
+use Rattle.index_lists.specs.Lists.{Lists, lists_of, list_at, list_of, IsLinked, without, moved, with_lists, linked_last, unlinked, empty_lists, grown, IsOnce, AreSound}
+use Rattle.index_lists.proofs.Nodes.{Contains-nil, Contains-first, Contains-cons_cases, without-same, without-other, without-absent, Contains-from_without, Contains-without, IsOnce-first, IsOnce-rest}
 use Rattle.index_lists.proofs.TableLemmas.{list_at-map, list_at-padded, list_at-replicate, list_at-past}
 
 -- a node of a list stands between two parts of it
@@ -22,8 +22,8 @@ split_at (first ∷ nodes) node found =
     elim (Contains-cons_cases first nodes node found) [
       | inl here ↦ ([], nodes, ap (λ n. n ∷ nodes) here)
       | inr later ↦
-        let parts = split_at nodes node later in
-        (first ∷ parts.0, parts.1, ap (λ l. first ∷ l) parts.2)
+          let parts = split_at nodes node later in
+          (first ∷ parts.0, parts.1, ap (λ l. first ∷ l) parts.2)
     ]
 
 -- a node between two parts is in the list
@@ -44,13 +44,14 @@ first_none (first ∷ rest) is = cc
 pub apart_from_split : (front : List ℕ) (node : ℕ) (rest : List ℕ) → IsOnce (front ++ node ∷ rest) → (Contains front node → ⊥) × (Contains rest node → ⊥)
 apart_from_split [] node rest once = (Contains-nil node, IsOnce-first node rest once)
 apart_from_split (first ∷ front) node rest once =
-    let later = apart_from_split front node rest (IsOnce-rest first (front ++ node ∷ rest) once) in
-    (λ found.
-        elim (Contains-cons_cases first front node found) as (λ _. ⊥) [
-          | inl here ↦ IsOnce-first first (front ++ node ∷ rest) once (subst (λ n. Contains (front ++ node ∷ rest) n) (sym here) (Contains-split front node rest))
-          | inr there ↦ later.0 there
-        ]
-    , later.1)
+    let later = apart_from_split front node rest (IsOnce-rest first (front ++ node ∷ rest) once) in (
+      λ found.
+          elim (Contains-cons_cases first front node found) as (λ _. ⊥) [
+            | inl here ↦ IsOnce-first first (front ++ node ∷ rest) once (subst (λ n. Contains (front ++ node ∷ rest) n) (sym here) (Contains-split front node rest))
+            | inr there ↦ later.0 there
+          ],
+      later.1,
+    )
 
 -- the node goes from between the two parts
 pub without-split : (front : List ℕ) (node : ℕ) (rest : List ℕ) → IsOnce (front ++ node ∷ rest) → without node (front ++ node ∷ rest) ≡ front ++ rest
@@ -65,17 +66,17 @@ length-without [] node once found = absurd (Contains-nil node found)
 length-without (first ∷ rest) node once found =
     elim (cases_eq first node) [
       | inl same ↦
-        let left : without node (first ∷ rest) ≡ rest =
-            ap (λ n. without node (n ∷ rest)) same ∙ without-same node rest
-            ∙ without-absent node rest (λ again. IsOnce-first first rest once (subst (λ n. Contains rest n) (sym same) again)) in
-        omega (arith, ap length left)
+          let left : without node (first ∷ rest) ≡ rest =
+          ap (λ n. without node (n ∷ rest)) same ∙ without-same node rest
+          ∙ without-absent node rest (λ again. IsOnce-first first rest once (subst (λ n. Contains rest n) (sym same) again)) in
+          omega (arith, ap length left)
       | inr differs ↦
-        let there : Contains rest node =
-            elim (Contains-cons_cases first rest node found) as (λ _. Contains rest node) [
-              | inl here ↦ absurd (differs here)
-              | inr later ↦ later
-            ] in
-        omega (arith, ap length (without-other node first rest differs), length-without rest node (IsOnce-rest first rest once) there)
+          let there : Contains rest node =
+          elim (Contains-cons_cases first rest node found) as (λ _. Contains rest node) [
+            | inl here ↦ absurd (differs here)
+            | inr later ↦ later
+          ] in
+          omega (arith, ap length (without-other node first rest differs), length-without rest node (IsOnce-rest first rest once) there)
     ]
 
 -- a move raises the number by one at most, and it never falls
@@ -164,20 +165,22 @@ module _ (lists : Lists) where
   IsLinked-linked_last side head node other within found =
       elim (cases_eq found.0 head) [
         | inl here ↦
-          let last = ap (λ h. list_of (linked_last lists side head node) side h) here ∙ list_of-linked_last side head node within in
-          elim (Contains-push_cases (list_of lists side head) node other (subst (λ l. Contains l other) last found.1)) [
-            | inl old ↦ inl (head, old)
-            | inr is ↦ inr is
-          ]
+            let last = ap (λ h. list_of (linked_last lists side head node) side h) here ∙ list_of-linked_last side head node within in
+            elim (Contains-push_cases (list_of lists side head) node other (subst (λ l. Contains l other) last found.1)) [
+              | inl old ↦ inl (head, old)
+              | inr is ↦ inr is
+            ]
         | inr differs ↦ inl (found.0, subst (λ l. Contains l other) (list_of-linked_last_other_head side head node found.0 differs) found.1)
       ]
 
   pub IsLinked-to_linked_last : (side : Side) (head node other : ℕ) → head < length (lists_of lists side) → IsLinked lists side other → IsLinked (linked_last lists side head node) side other
   IsLinked-to_linked_last side head node other within found =
       elim (cases_eq found.0 head) [
-        | inl here ↦
-          (head, subst (λ l. Contains l other) (sym (list_of-linked_last side head node within))
-          (Contains-append_left (list_of lists side head) (node ∷ []) other (subst (λ h. Contains (list_of lists side h) other) here found.1)))
+        | inl here ↦ (
+          head,
+          subst (λ l. Contains l other) (sym (list_of-linked_last side head node within))
+              (Contains-append_left (list_of lists side head) (node ∷ []) other (subst (λ h. Contains (list_of lists side h) other) here found.1)),
+        )
         | inr differs ↦ (found.0, subst (λ l. Contains l other) (sym (list_of-linked_last_other_head side head node found.0 differs)) found.1)
       ]
 

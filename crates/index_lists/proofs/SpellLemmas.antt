@@ -1,5 +1,5 @@
 -- Links that spell the lists of heads still do so once a node is put last or taken out.
-use Rattle.std.proofs.Common.{◌≡◌, ◌≢◌, ◌⊎◌, ℕ, List, [], ◌∷◌, ◌++◌, Option, Some, None, refl, sym, ap, ◌∙◌, subst, inl, inr}
+use Rattle.std.proofs.Common.{◌≡◌, ◌≢◌, ℕ, List, [], ◌∷◌, ◌++◌, Option, Some, None, sym, ap, ◌∙◌, subst, inl, inr}
 use Rattle.std.specs.List.{Contains}
 use Rattle.std.proofs.lemmas.Bool.{cases_eq}
 use Rattle.std.proofs.lemmas.List.Elements.{Contains-append_left, Contains-push, Contains-push_cases}
@@ -36,7 +36,7 @@ module _ (next previous : Spot → Option ℕ) (owner : ℕ → Option ℕ) (lis
         elim (before_end next previous head None (list head) None (spells.chained head)) [
           | inl start ↦ absurd (not_none node (sym start ∙ is))
           | inr among ↦
-            subst (λ n. owner n ≡ Some head) (same_some among.0 node (sym among.2 ∙ is)) (spells.owned head among.0 among.1)
+              subst (λ n. owner n ≡ Some head) (same_some among.0 node (sym among.2 ∙ is)) (spells.owned head among.0 among.1)
         ]
 
     pub before_owned : (head node : ℕ) → owner node ≡ Some head → IsOwned owner head (previous (inr node))
@@ -44,7 +44,7 @@ module _ (next previous : Spot → Option ℕ) (owner : ℕ → Option ℕ) (lis
         elim (before_node next previous head None (list head) None node (spells.chained head) (spells.listed head node mine)) [
           | inl start ↦ absurd (not_none other (sym start ∙ is))
           | inr among ↦
-            subst (λ n. owner n ≡ Some head) (same_some among.0 other (sym among.2 ∙ is)) (spells.owned head among.0 among.1)
+              subst (λ n. owner n ≡ Some head) (same_some among.0 other (sym among.2 ∙ is)) (spells.owned head among.0 among.1)
         ]
 
     pub after_owned : (head node : ℕ) → owner node ≡ Some head → IsOwned owner head (next (inr node))
@@ -52,7 +52,7 @@ module _ (next previous : Spot → Option ℕ) (owner : ℕ → Option ℕ) (lis
         elim (after_node next previous head None (list head) None node (spells.chained head) (spells.listed head node mine)) [
           | inl end ↦ absurd (not_none other (sym end ∙ is))
           | inr among ↦
-            subst (λ n. owner n ≡ Some head) (same_some among.0 other (sym among.2 ∙ is)) (spells.owned head among.0 among.1)
+              subst (λ n. owner n ≡ Some head) (same_some among.0 other (sym among.2 ∙ is)) (spells.owned head among.0 among.1)
         ]
 
     node_owned : (head node : ℕ) → owner node ≡ Some head → IsOwned owner head (Some node)
@@ -66,14 +66,14 @@ module _ (next previous : Spot → Option ℕ) (owner : ℕ → Option ℕ) (lis
 
     module _ (head node : ℕ) (next1 previous1 next' previous' : Spot → Option ℕ) (owner' : ℕ → Option ℕ) (list' : ℕ → List ℕ) (others : (other : ℕ) → other ≢ node → owner' other ≡ owner other) where
       module _ (next2 previous2 : Spot → Option ℕ)
-        (free : owner node ≡ None)
-        (nexts1 : (at : Spot) → next1 at ≡ next at)
-        (previouses1 : (at : Spot) → previous1 at ≡ previous at)
-        (into : Joins next1 previous1 next2 previous2 head (previous (inl head)) (Some node))
-        (out : Joins next2 previous2 next' previous' head (Some node) None)
-        (mine : owner' node ≡ Some head)
-        (pushed : list' head ≡ list head ++ node ∷ [])
-        (same : (other : ℕ) → other ≢ head → list' other ≡ list other) where
+          (free : owner node ≡ None)
+          (nexts1 : (at : Spot) → next1 at ≡ next at)
+          (previouses1 : (at : Spot) → previous1 at ≡ previous at)
+          (into : Joins next1 previous1 next2 previous2 head (previous (inl head)) (Some node))
+          (out : Joins next2 previous2 next' previous' head (Some node) None)
+          (mine : owner' node ≡ Some head)
+          (pushed : list' head ≡ list head ++ node ∷ [])
+          (same : (other : ℕ) → other ≢ head → list' other ≡ list other) where
         not_there : (other : ℕ) → Contains (list other) node → ⊥
         not_there other found = not_none other (sym free ∙ spells.owned other node found)
 
@@ -102,62 +102,62 @@ module _ (next previous : Spot → Option ℕ) (owner : ℕ → Option ℕ) (lis
         chained other =
             elim (cases_eq other head) [
               | inl here ↦
-                subst (λ h. IsChain next' previous' h None (list' h) None) (sym here)
-                (subst (λ nodes. IsChain next' previous' head None nodes None) (sym pushed)
-                (IsChain-push next previous next' previous' head node last out.joined nexts previouses
-                (end_forth next previous head None (list head) None (spells.chained head))
-                None (list head) (λ is. not_none node is) (not_there head) (spells.chained head)))
+                  subst (λ h. IsChain next' previous' h None (list' h) None) (sym here)
+                  (subst (λ nodes. IsChain next' previous' head None nodes None) (sym pushed)
+                  (IsChain-push next previous next' previous' head node last out.joined nexts previouses
+                  (end_forth next previous head None (list head) None (spells.chained head))
+                  None (list head) (λ is. not_none node is) (not_there head) (spells.chained head)))
               | inr differs ↦
-                subst (λ nodes. IsChain next' previous' other None nodes None) (sym (same other differs))
-                (IsChain-kept next previous next' previous' (IsOwned owner other) other
-                (λ end own. nexts (spot other end) (not_owned other end own) (spots_apart owner other head end (previous (inl head)) differs own (last_owned head)))
-                (λ end own. previouses (spot other end) (not_owned other end own) (head_apart other end differs own))
-                None (list other) None (none_owned other) (among_owned other) (none_owned other) (spells.chained other))
+                  subst (λ nodes. IsChain next' previous' other None nodes None) (sym (same other differs))
+                  (IsChain-kept next previous next' previous' (IsOwned owner other) other
+                  (λ end own. nexts (spot other end) (not_owned other end own) (spots_apart owner other head end (previous (inl head)) differs own (last_owned head)))
+                  (λ end own. previouses (spot other end) (not_owned other end own) (head_apart other end differs own))
+                  None (list other) None (none_owned other) (among_owned other) (none_owned other) (spells.chained other))
             ]
 
         owned : (other found : ℕ) → Contains (list' other) found → owner' found ≡ Some other
         owned other found there =
             elim (cases_eq other head) [
               | inl here ↦
-                elim (Contains-push_cases (list head) node found (subst (λ nodes. Contains nodes found) (ap list' here ∙ pushed) there)) [
-                  | inl before ↦
-                    others found (λ is. not_there head (subst (λ n. Contains (list head) n) is before))
-                    ∙ spells.owned head found before ∙ ap Some (sym here)
-                  | inr is ↦ ap owner' (sym is) ∙ mine ∙ ap Some (sym here)
-                ]
+                  elim (Contains-push_cases (list head) node found (subst (λ nodes. Contains nodes found) (ap list' here ∙ pushed) there)) [
+                    | inl before ↦
+                        others found (λ is. not_there head (subst (λ n. Contains (list head) n) is before))
+                        ∙ spells.owned head found before ∙ ap Some (sym here)
+                    | inr is ↦ ap owner' (sym is) ∙ mine ∙ ap Some (sym here)
+                  ]
               | inr differs ↦
-                let before = subst (λ nodes. Contains nodes found) (same other differs) there in
-                others found (λ is. not_there other (subst (λ n. Contains (list other) n) is before)) ∙ spells.owned other found before
+                  let before = subst (λ nodes. Contains nodes found) (same other differs) there in
+                  others found (λ is. not_there other (subst (λ n. Contains (list other) n) is before)) ∙ spells.owned other found before
             ]
 
         listed : (other found : ℕ) → owner' found ≡ Some other → Contains (list' other) found
         listed other found own =
             elim (cases_eq found node) [
               | inl is ↦
-                let here : head ≡ other = same_some head other (sym mine ∙ ap owner' (sym is) ∙ own) in
-                subst (λ h. Contains (list' h) found) here
-                (subst (λ nodes. Contains nodes found) (sym pushed)
-                (subst (λ n. Contains (list head ++ node ∷ []) n) (sym is) (Contains-push (list head) node)))
+                  let here : head ≡ other = same_some head other (sym mine ∙ ap owner' (sym is) ∙ own) in
+                  subst (λ h. Contains (list' h) found) here
+                  (subst (λ nodes. Contains nodes found) (sym pushed)
+                  (subst (λ n. Contains (list head ++ node ∷ []) n) (sym is) (Contains-push (list head) node)))
               | inr differs ↦
-                let before = spells.listed other found (sym (others found differs) ∙ own) in
-                elim (cases_eq other head) [
-                  | inl here ↦
-                    subst (λ nodes. Contains nodes found) (sym (ap list' here ∙ pushed))
-                    (Contains-append_left (list head) (node ∷ []) found (subst (λ h. Contains (list h) found) here before))
-                  | inr elsewhere ↦ subst (λ nodes. Contains nodes found) (sym (same other elsewhere)) before
-                ]
+                  let before = spells.listed other found (sym (others found differs) ∙ own) in
+                  elim (cases_eq other head) [
+                    | inl here ↦
+                        subst (λ nodes. Contains nodes found) (sym (ap list' here ∙ pushed))
+                        (Contains-append_left (list head) (node ∷ []) found (subst (λ h. Contains (list h) found) here before))
+                    | inr elsewhere ↦ subst (λ nodes. Contains nodes found) (sym (same other elsewhere)) before
+                  ]
             ]
 
         pub Spells-push : Spells next' previous' owner' list'
         Spells-push = record { chained = chained; owned = owned; listed = listed }
 
       module _
-        (mine : owner node ≡ Some head)
-        (nexts1 : (at : Spot) → at ≢ inr node → next1 at ≡ next at)
-        (previouses1 : (at : Spot) → at ≢ inr node → previous1 at ≡ previous at)
-        (closed : Joins next1 previous1 next' previous' head (previous (inr node)) (next (inr node)))
-        (gone : owner' node ≡ None)
-        (left : (other : ℕ) → list' other ≡ without node (list other)) where
+          (mine : owner node ≡ Some head)
+          (nexts1 : (at : Spot) → at ≢ inr node → next1 at ≡ next at)
+          (previouses1 : (at : Spot) → at ≢ inr node → previous1 at ≡ previous at)
+          (closed : Joins next1 previous1 next' previous' head (previous (inr node)) (next (inr node)))
+          (gone : owner' node ≡ None)
+          (left : (other : ℕ) → list' other ≡ without node (list other)) where
         nexts_kept : (at : Spot) → at ≢ inr node → at ≢ spot head (previous (inr node)) → next' at ≡ next at
         nexts_kept at not_node not_end = closed.nexts at not_end ∙ nexts1 at not_node
 
@@ -171,21 +171,21 @@ module _ (next previous : Spot → Option ℕ) (owner : ℕ → Option ℕ) (lis
         still_chained other =
             elim (cases_eq other head) [
               | inl here ↦
-                subst (λ h. IsChain next' previous' h None (list' h) None) (sym here)
-                (subst (λ nodes. IsChain next' previous' head None nodes None) (sym (left head))
-                (let found = spells.listed head node mine in
-                IsChain-without next previous next' previous' head node closed.joined nexts_kept previouses_kept
-                (node_forth next previous head None (list head) None node (spells.chained head) found)
-                (node_back next previous head None (list head) None node (spells.chained head) found)
-                None (list head) None (λ is. not_none node is) (λ is. not_none node is) (once_there head) found (spells.chained head)))
+                  subst (λ h. IsChain next' previous' h None (list' h) None) (sym here)
+                  (subst (λ nodes. IsChain next' previous' head None nodes None) (sym (left head))
+                  (let found = spells.listed head node mine in
+                  IsChain-without next previous next' previous' head node closed.joined nexts_kept previouses_kept
+                  (node_forth next previous head None (list head) None node (spells.chained head) found)
+                  (node_back next previous head None (list head) None node (spells.chained head) found)
+                  None (list head) None (λ is. not_none node is) (λ is. not_none node is) (once_there head) found (spells.chained head)))
               | inr differs ↦
-                let absent : Contains (list other) node → ⊥ =
-                    λ found. differs (same_some other head (sym (spells.owned other node found) ∙ mine)) in
-                subst (λ nodes. IsChain next' previous' other None nodes None) (sym (left other ∙ without-absent node (list other) absent))
-                (IsChain-kept next previous next' previous' (IsOwned owner other) other
-                (λ end own. nexts_kept (spot other end) (node_apart other end differs own) (spots_apart owner other head end (previous (inr node)) differs own (before_owned head node mine)))
-                (λ end own. previouses_kept (spot other end) (node_apart other end differs own) (spots_apart owner other head end (next (inr node)) differs own (after_owned head node mine)))
-                None (list other) None (none_owned other) (among_owned other) (none_owned other) (spells.chained other))
+                  let absent : Contains (list other) node → ⊥ =
+                  λ found. differs (same_some other head (sym (spells.owned other node found) ∙ mine)) in
+                  subst (λ nodes. IsChain next' previous' other None nodes None) (sym (left other ∙ without-absent node (list other) absent))
+                  (IsChain-kept next previous next' previous' (IsOwned owner other) other
+                  (λ end own. nexts_kept (spot other end) (node_apart other end differs own) (spots_apart owner other head end (previous (inr node)) differs own (before_owned head node mine)))
+                  (λ end own. previouses_kept (spot other end) (node_apart other end differs own) (spots_apart owner other head end (next (inr node)) differs own (after_owned head node mine)))
+                  None (list other) None (none_owned other) (among_owned other) (none_owned other) (spells.chained other))
             ]
 
         pub Spells-without : Spells next' previous' owner' list'

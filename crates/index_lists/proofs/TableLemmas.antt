@@ -1,15 +1,15 @@
 -- From the links and the ends to the lists that a contract sees.
-use Rattle.std.proofs.Common.{◌≡◌, ◌≢◌, ◌⊎◌, ℕ, zero, suc, ◌+◌, ◌-◌, ◌<◌, ◌≤◌, List, [], ◌∷◌, ◌++◌, length, map, take, get_or, set, replicate, Option, Some, None, slice_get, refl, sym, ap, ◌∙◌, subst, inl, inr, arith, get_or-set_same, get_or-set_other, length-set}
+use Rattle.std.proofs.Common.{◌≡◌, ◌≢◌, ℕ, zero, suc, ◌-◌, ◌<◌, ◌≤◌, List, [], ◌∷◌, ◌++◌, length, map, take, get_or, set, replicate, Option, Some, None, slice_get, refl, sym, ap, ◌∙◌, subst, inl, inr, arith, get_or-set_same, get_or-set_other, length-set}
 use Rattle.std.specs.Prelude.{IsTrue, ◌↔◌, is_some}
 use Rattle.std.specs.List.{Contains}
 use Rattle.std.proofs.lemmas.Bool.{cases_eq, cases_lt}
-use Rattle.std.proofs.lemmas.List.{ext_get_or, get_or_past, get_or_read, get_or-take, length-map, length-take, length-append, length-replicate, get_or_append_left, get_or-append_right}
+use Rattle.std.proofs.lemmas.List.{ext_get_or, get_or_past, get_or_read, length-map, length-take, length-append, length-replicate, get_or_append_left, get_or-append_right}
 use Rattle.std.proofs.lemmas.List.Elements.{Contains-push_cases}
 use Rattle.index_lists.specs.declared.chains.Link.{Link}
 use Rattle.index_lists.specs.declared.chains.Ends.{Ends}
 use Rattle.index_lists.specs.Lists.{list_at, without, padded, IsApart}
-use Rattle.index_lists.specs.Chains.{no_link, no_ends, Spot, spot, after, before, owner, AreJoined, IsChain, Spells, Joins, walk, nodes_between, lists_between, AreLinked}
-use Rattle.index_lists.proofs.Nodes.{Contains-first, Contains-rest, Contains-from_without, length-once_le}
+use Rattle.index_lists.specs.Chains.{no_link, no_ends, Spot, spot, after, before, owner, IsChain, Joins, walk, nodes_between, lists_between, AreLinked}
+use Rattle.index_lists.proofs.Nodes.{Contains-from_without, length-once_le}
 use Rattle.index_lists.proofs.ChainLemmas.{IsChain-split, chain_first}
 use Rattle.index_lists.proofs.SpellLemmas.{Spells-same, one_list, once_there, last_owned, before_owned, after_owned, Spells-push, Spells-without}
 
@@ -49,8 +49,8 @@ list_at-padded lists heads head =
     elim (cases_lt head (length lists)) [
       | inl within ↦ get_or_append_left lists (replicate (heads - length lists) []) [] head within
       | inr past ↦
-        get_or-append_right lists (replicate (heads - length lists) []) (length lists) head [] refl past
-        ∙ list_at-replicate (heads - length lists) (head - length lists) ∙ sym (get_or_past lists head [] past)
+          get_or-append_right lists (replicate (heads - length lists) []) (length lists) head [] refl past
+          ∙ list_at-replicate (heads - length lists) (head - length lists) ∙ sym (get_or_past lists head [] past)
     ]
 
 nodes_at : (links : List Link) (ends : List Ends) (heads head : ℕ) → head < heads → heads ≤ length ends → get_or (map (nodes_between links) (take heads ends)) head [] ≡ nodes_between links (get_or ends head no_ends)
@@ -64,15 +64,15 @@ module _ (links : List Link) (ends : List Ends) (nodes heads : ℕ) (lists : Lis
   pub AreLinked-lists : lists_between links ends heads ≡ lists
   AreLinked-lists =
       let count : length (lists_between links ends heads) ≡ length lists =
-          omega (arith, length-map (take heads ends) (nodes_between links), length-take heads ends, linked.head_room, linked.count) in
+      omega (arith, length-map (take heads ends) (nodes_between links), length-take heads ends, linked.head_room, linked.count) in
       ext_get_or [] (lists_between links ends heads) lists count
       (λ head within.
-          let inside : head < heads = omega (arith, within, count, linked.count) in
-          let few : length (list_at lists head) ≤ length links =
-              length-once_le (length links) (list_at lists head) (once_there _ _ _ _ linked.spells head)
-              (λ node found. omega (arith, linked.below head node found, linked.node_room)) in
-          nodes_at links ends heads head inside linked.head_room
-          ∙ walk-chain links ends head None (list_at lists head) (length links) (linked.spells.chained head) few)
+      let inside : head < heads = omega (arith, within, count, linked.count) in
+      let few : length (list_at lists head) ≤ length links =
+      length-once_le (length links) (list_at lists head) (once_there _ _ _ _ linked.spells head)
+      (λ node found. omega (arith, linked.below head node found, linked.node_room)) in
+      nodes_at links ends heads head inside linked.head_room
+      ∙ walk-chain links ends head None (list_at lists head) (length links) (linked.spells.chained head) few)
 
   pub AreLinked-itself : AreLinked links ends nodes heads (lists_between links ends heads)
   AreLinked-itself = subst (λ l. AreLinked links ends nodes heads l) (sym AreLinked-lists) linked
@@ -143,14 +143,14 @@ module _ (links : List Link) (ends : List Ends) (nodes heads : ℕ) (lists : Lis
 
   -- the node is put last in the head's list
   pub AreLinked-push : (links2 links' : List Link) (ends2 ends' : List Ends) (head node : ℕ) (link : Link) (these : Ends) →
-    head < length lists → node < nodes → ((other : ℕ) → Contains (list_at lists other) node → ⊥) →
-    link ≡ get_or links node link → these ≡ get_or ends head these →
-    Joins (after (set links node (record link { head = Some head })) ends) (before (set links node (record link { head = Some head })) ends) (after links2 ends2) (before links2 ends2) head these.last (Some node) →
-    Joins (after links2 ends2) (before links2 ends2) (after links' ends') (before links' ends') head (Some node) None →
-    ((other : ℕ) → owner links2 other ≡ owner (set links node (record link { head = Some head })) other) →
-    ((other : ℕ) → owner links' other ≡ owner links2 other) →
-    length links' ≡ length links → length ends' ≡ length ends →
-    AreLinked links' ends' nodes heads (set lists head (list_at lists head ++ node ∷ []))
+      head < length lists → node < nodes → ((other : ℕ) → Contains (list_at lists other) node → ⊥) →
+      link ≡ get_or links node link → these ≡ get_or ends head these →
+      Joins (after (set links node (record link { head = Some head })) ends) (before (set links node (record link { head = Some head })) ends) (after links2 ends2) (before links2 ends2) head these.last (Some node) →
+      Joins (after links2 ends2) (before links2 ends2) (after links' ends') (before links' ends') head (Some node) None →
+      ((other : ℕ) → owner links2 other ≡ owner (set links node (record link { head = Some head })) other) →
+      ((other : ℕ) → owner links' other ≡ owner links2 other) →
+      length links' ≡ length links → length ends' ≡ length ends →
+      AreLinked links' ends' nodes heads (set lists head (list_at lists head ++ node ∷ []))
   AreLinked-push links2 links' ends2 ends' head node link these head_in node_in free read ends_read into out owners2 owners' links_len ends_len = record {
     node_room = omega (arith, linked.node_room, links_len);
     head_room = omega (arith, linked.head_room, ends_len);
@@ -158,10 +158,10 @@ module _ (links : List Link) (ends : List Ends) (nodes heads : ℕ) (lists : Lis
     below = λ other found there.
         elim (cases_eq other head) [
           | inl here ↦
-            elim (Contains-push_cases (list_at lists head) node found (subst (λ l. Contains l found) (ap pushed here ∙ pushed_here) there)) [
-              | inl old ↦ linked.below head found old
-              | inr is ↦ subst (λ n. n < nodes) is node_in
-            ]
+              elim (Contains-push_cases (list_at lists head) node found (subst (λ l. Contains l found) (ap pushed here ∙ pushed_here) there)) [
+                | inl old ↦ linked.below head found old
+                | inr is ↦ subst (λ n. n < nodes) is node_in
+              ]
           | inr differs ↦ linked.below other found (subst (λ l. Contains l found) (pushed_else other differs) there)
         ];
     spells = Spells-push _ _ _ _ linked.spells head node _ _ (after links' ends') (before links' ends') (owner links') pushed others
@@ -203,9 +203,9 @@ module _ (links : List Link) (ends : List Ends) (nodes heads : ℕ) (lists : Lis
       nexts (inr other) =
           elim (cases_eq other node) [
             | inl is ↦
-              ap (λ n. (get_or marked n no_link).next) is
-              ∙ ap (λ (l : Link). l.next) (get_or-set_same links node (record link { head = Some head }) no_link node_room)
-              ∙ ap (λ (l : Link). l.next) (sym same_link) ∙ ap (λ n. (get_or links n no_link).next) (sym is)
+                ap (λ n. (get_or marked n no_link).next) is
+                ∙ ap (λ (l : Link). l.next) (get_or-set_same links node (record link { head = Some head }) no_link node_room)
+                ∙ ap (λ (l : Link). l.next) (sym same_link) ∙ ap (λ n. (get_or links n no_link).next) (sym is)
             | inr differs ↦ ap (λ (l : Link). l.next) (get_or-set_other links node other (record link { head = Some head }) no_link differs)
           ]
 
@@ -214,9 +214,9 @@ module _ (links : List Link) (ends : List Ends) (nodes heads : ℕ) (lists : Lis
       previouses (inr other) =
           elim (cases_eq other node) [
             | inl is ↦
-              ap (λ n. (get_or marked n no_link).previous) is
-              ∙ ap (λ (l : Link). l.previous) (get_or-set_same links node (record link { head = Some head }) no_link node_room)
-              ∙ ap (λ (l : Link). l.previous) (sym same_link) ∙ ap (λ n. (get_or links n no_link).previous) (sym is)
+                ap (λ n. (get_or marked n no_link).previous) is
+                ∙ ap (λ (l : Link). l.previous) (get_or-set_same links node (record link { head = Some head }) no_link node_room)
+                ∙ ap (λ (l : Link). l.previous) (sym same_link) ∙ ap (λ n. (get_or links n no_link).previous) (sym is)
             | inr differs ↦ ap (λ (l : Link). l.previous) (get_or-set_other links node other (record link { head = Some head }) no_link differs)
           ]
 
@@ -227,11 +227,11 @@ module _ (links : List Link) (ends : List Ends) (nodes heads : ℕ) (lists : Lis
 
   -- the node is taken out of its list
   pub AreLinked-without : (links' : List Link) (ends' : List Ends) (head node : ℕ) (link : Link) →
-    node < length links → link ≡ get_or links node link → link.head ≡ Some head →
-    Joins (after (set links node no_link) ends) (before (set links node no_link) ends) (after links' ends') (before links' ends') head link.previous link.next →
-    ((other : ℕ) → owner links' other ≡ owner (set links node no_link) other) →
-    length links' ≡ length links → length ends' ≡ length ends →
-    AreLinked links' ends' nodes heads (map (without node) lists)
+      node < length links → link ≡ get_or links node link → link.head ≡ Some head →
+      Joins (after (set links node no_link) ends) (before (set links node no_link) ends) (after links' ends') (before links' ends') head link.previous link.next →
+      ((other : ℕ) → owner links' other ≡ owner (set links node no_link) other) →
+      length links' ≡ length links → length ends' ≡ length ends →
+      AreLinked links' ends' nodes heads (map (without node) lists)
   AreLinked-without links' ends' head node link node_in read mine closed owners' links_len ends_len = record {
     node_room = omega (arith, linked.node_room, links_len);
     head_room = omega (arith, linked.head_room, ends_len);
@@ -264,9 +264,10 @@ module _ (links : List Link) (ends : List Ends) (nodes heads : ℕ) (lists : Lis
 
   -- a node with an owner is in a list
   pub linked_where_owned : (node : ℕ) → IsTrue (is_some (owner links node)) ↔ ((head : ℕ) × Contains (list_at lists head) node)
-  linked_where_owned node =
-      (elim (owner links node) as (λ o. owner links node ≡ o → IsTrue (is_some o) → (head : ℕ) × Contains (list_at lists head) node) [
-        | None ↦ λ is has. cc
-        | Some head ↦ λ is has. (head, linked.spells.listed head node is)
-      ] refl
-      , λ found. subst (λ o. IsTrue (is_some o)) (sym (linked.spells.owned found.0 node found.1)) refl)
+  linked_where_owned node = (
+    elim (owner links node) as (λ o. owner links node ≡ o → IsTrue (is_some o) → (head : ℕ) × Contains (list_at lists head) node) [
+      | None ↦ λ is has. cc
+      | Some head ↦ λ is has. (head, linked.spells.listed head node is)
+    ] refl,
+    λ found. subst (λ o. IsTrue (is_some o)) (sym (linked.spells.owned found.0 node found.1)) refl,
+  )

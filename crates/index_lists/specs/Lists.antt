@@ -3,7 +3,7 @@
 --     IsLinked lists side node     the node is in some list of the side
 --     grown, linked_last, unlinked what `grow`, `link_last` and `unlink` make of the lists
 --     AreSound lists               what is true of the lists of every `Rows`
-use Rattle.std.specs.Prelude.{◌≡◌, ◌≢◌, ℕ, ◌+◌, ◌-◌, ◌^◌, ◌<◌, min, not, ◌==◌, List, [], ◌∷◌, ◌++◌, length, map, replicate, slice_index_or, slice_get, slice_set, refl, Option}
+use Rattle.std.specs.Prelude.{◌≡◌, ◌≢◌, ℕ, ◌+◌, ◌-◌, ◌^◌, ◌<◌, min, not, ◌==◌, List, [], ◌∷◌, ◌++◌, length, map, replicate, slice_index_or, slice_set, refl}
 use Rattle.std.specs.List.{filter, Contains, AllPairs}
 use Rattle.std.specs.Coded.{Coded, code_by, coded×, coded_ℕ, coded_list}
 use base.Stored.{coded_via}

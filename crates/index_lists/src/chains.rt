@@ -52,10 +52,10 @@ impl Model for Chains {
     ghost coded = { table_code };
 
     ghost view = { λ a. record {
-        nodes = a.nodes;
-        lists = lists_between a.links.items a.ends.items a.heads;
-        node_room = length a.links.items;
-        head_room = length a.ends.items
+      nodes = a.nodes;
+      lists = lists_between a.links.items a.ends.items a.heads;
+      node_room = length a.links.items;
+      head_room = length a.ends.items;
     } };
 
     ghost invariant = { λ a.
@@ -174,7 +174,13 @@ impl Chains {
         let link = self.links[node as usize];
         let head = link.head.unwrap();
         self.links[node as usize] = NO_LINK;
-        join(&mut self.links, &mut self.ends, head, link.previous, link.next);
+        join(
+            &mut self.links,
+            &mut self.ends,
+            head,
+            link.previous,
+            link.next,
+        );
     }
 
     pub fn first(&self, head: u32) -> Option<u32>

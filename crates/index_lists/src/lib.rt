@@ -1,8 +1,8 @@
 //! Lists of nodes that are named by index. Linking and unlinking a node take constant time and no memory.
 #![tactic(auto)]
 
-ghost use Rattle.std.specs.Prelude.{◌≡◌, ℕ, ◌<◌, ◌≤◌, ◌↔◌, List, ◌++◌, ◌∷◌, slice_get, IsTrue, IfOk, OnOk, OnErr};
-ghost use Rattle.index_lists.specs.Lists.{AreSound, IsLinked, list_of, empty_lists, grown, linked_last, unlinked};
+ghost use Rattle.std.specs.Prelude.{◌≡◌, ℕ, ◌<◌, ◌≤◌, ◌↔◌, List, ◌++◌, ◌∷◌, slice_get, IsTrue, IfSome, IfOk, OnOk, OnErr};
+ghost use Rattle.index_lists.specs.Lists.{AreSound, IsLinked, list_of, empty_lists, grown, linked_last, unlinked, moved};
 ghost use Rattle.index_lists.specs.Chains.{lists_from};
 
 mod chains;
@@ -85,7 +85,11 @@ impl Rows {
         requires head_in { head < self.old.lists.heads }
         requires node_in { node < self.old.lists.nodes }
         requires free { ¬ IsLinked self.old.lists side node }
-        ensures { self.new.lists ≡ linked_last self.old.lists side head node }
+        ensures lists { self.new.lists ≡ linked_last self.old.lists side head node }
+        ensures linked { IsLinked self.new.lists side node }
+        ensures nodes { self.new.lists.nodes ≡ self.old.lists.nodes }
+        ensures heads { self.new.lists.heads ≡ self.old.lists.heads }
+        ensures moves { self.new.lists.moves ≡ moved self.old.lists.moves }
     {
         self.moves = self.moves.saturating_add(1);
         match side {
@@ -97,7 +101,11 @@ impl Rows {
     /// Takes a node out of its list.
     pub fn unlink(&mut self, side: Side, node: u32)
         requires { IsLinked self.old.lists side node }
-        ensures { self.new.lists ≡ unlinked self.old.lists side node }
+        ensures lists { self.new.lists ≡ unlinked self.old.lists side node }
+        ensures free { ¬ IsLinked self.new.lists side node }
+        ensures nodes { self.new.lists.nodes ≡ self.old.lists.nodes }
+        ensures heads { self.new.lists.heads ≡ self.old.lists.heads }
+        ensures moves { self.new.lists.moves ≡ moved self.old.lists.moves }
     {
         self.moves = self.moves.saturating_add(1);
         match side {
@@ -109,7 +117,9 @@ impl Rows {
     /// The first node of the head's list.
     pub fn first(&self, side: Side, head: u32) -> Option<u32>
         requires { head < self.now.lists.heads }
-        ensures { result ≡ slice_get (list_of self.now.lists side head) 0 }
+        ensures value { result ≡ slice_get (list_of self.now.lists side head) 0 }
+        ensures linked { IfSome result (IsLinked self.now.lists side) }
+        ensures in_range { IfSome result (λ node. node < self.now.lists.nodes) }
     {
         match side {
             Side::First => self.first.first(head),
@@ -120,8 +130,10 @@ impl Rows {
     /// The node after this one in its list.
     pub fn next(&self, side: Side, node: u32) -> Option<u32>
         requires { IsLinked self.now.lists side node }
-        ensures { (head : ℕ) (front rest : List ℕ)
+        ensures value { (head : ℕ) (front rest : List ℕ)
             → list_of self.now.lists side head ≡ front ++ node ∷ rest → result ≡ slice_get rest 0 }
+        ensures linked { IfSome result (IsLinked self.now.lists side) }
+        ensures in_range { IfSome result (λ node. node < self.now.lists.nodes) }
     {
         match side {
             Side::First => self.first.next(node),

@@ -24,11 +24,11 @@ impl Model for PlainRows {
     ghost coded = { lists_code };
 
     ghost view = { λ a. record {
-        nodes = a.nodes;
-        heads = a.heads;
-        first = map (λ list. list.items) a.first.items;
-        second = map (λ list. list.items) a.second.items;
-        moves = a.moves
+      nodes = a.nodes;
+      heads = a.heads;
+      first = map (λ list. list.items) a.first.items;
+      second = map (λ list. list.items) a.second.items;
+      moves = a.moves;
     } };
 
     ghost invariant = { λ a. (length a.first.items ≡ a.heads) × (length a.second.items ≡ a.heads) };

@@ -34,7 +34,13 @@ fn take(rt: &impl Abort, rows: &mut Rows, side: Side, node: u32) {
     rows.unlink(side, node);
 }
 
-fn assert_list(rt: &(impl Abort + AllocGlobal), rows: &Rows, side: Side, head: u32, want: &[u32]) -> Result<(), Fail> {
+fn assert_list(
+    rt: &(impl Abort + AllocGlobal),
+    rows: &Rows,
+    side: Side,
+    head: u32,
+    want: &[u32],
+) -> Result<(), Fail> {
     assert!(rt; head < rows.heads());
     let nodes = nodes_of(rt.alloc(), rows, side, head)?;
     assert_eq!(rt; nodes.as_slice(), want, "{side:?} {head}");
@@ -95,6 +101,7 @@ struct Numbers {
 }
 
 const MULTIPLIER: u64 = 6364136223846793005;
+
 const INCREMENT: u64 = 1442695040888963407;
 // The low bits of the state follow short cycles.
 const LOW: u64 = 1 << 33;
@@ -118,7 +125,13 @@ impl Numbers {
 }
 
 // Links the node, or unlinks it where it is linked, in both.
-fn toggle(rows: &mut Rows, plain: &mut PlainRows, side: Side, head: u32, node: u32) -> Result<(), AllocError>
+fn toggle(
+    rows: &mut Rows,
+    plain: &mut PlainRows,
+    side: Side,
+    head: u32,
+    node: u32,
+) -> Result<(), AllocError>
     requires head_in { head < rows.old.lists.heads }
     requires node_in { node < rows.old.lists.nodes }
     requires same { plain.old ≡ rows.old.lists }
@@ -134,7 +147,11 @@ fn toggle(rows: &mut Rows, plain: &mut PlainRows, side: Side, head: u32, node: u
     }
 }
 
-fn assert_same(rt: &(impl Abort + AllocGlobal), rows: &Rows, plain: &PlainRows) -> Result<(), Fail> {
+fn assert_same(
+    rt: &(impl Abort + AllocGlobal),
+    rows: &Rows,
+    plain: &PlainRows,
+) -> Result<(), Fail> {
     assert_eq!(rt; rows.moves(), plain.moves());
     for side in [Side::First, Side::Second] {
         for head in 0..rows.heads() {

@@ -1,4 +1,4 @@
-use Rattle.std.proofs.Common.{◌≡◌, ℕ, ◌-◌, ◌≤◌, get_or, length, vec_len}
+use Rattle.std.proofs.Common.{◌≡◌, ℕ, ◌-◌, ◌≤◌, get_or, vec_len}
 use Rattle.index_lists.proofs.chains.lengthen.Given as goal
 
 abbrev pub invariant-loop-filler : goal.invariant-loop-filler

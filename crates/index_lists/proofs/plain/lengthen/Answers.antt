@@ -1,4 +1,4 @@
-use Rattle.std.proofs.Common.{◌≡◌, ℕ, ◌<◌, [], ◌∷◌, ◌++◌, map, length, ap, ◌∙◌, arith, Vec, Global}
+use Rattle.std.proofs.Common.{ℕ, ◌<◌, [], ◌∷◌, ◌++◌, map, length, ap, ◌∙◌, arith, Vec, Global}
 use Rattle.std.proofs.lemmas.List.{map-append, length-map}
 use Rattle.index_lists.specs.Lists.{padded}
 use Rattle.index_lists.proofs.PlainLemmas.{padded-push}

@@ -1,4 +1,4 @@
-use Rattle.std.proofs.Common.{◌≡◌, ℕ, ◌<◌, length, ◌∙◌, arith, length-set, Vec, Global}
+use Rattle.std.proofs.Common.{ℕ, ◌<◌, length, ◌∙◌, arith, length-set, Vec, Global}
 use Rattle.index_lists.proofs.PlainLemmas.{done_more, rest_more}
 use Rattle.index_lists.proofs.plain.remove.Goals as goal
 

@@ -1,14 +1,15 @@
-use Rattle.std.proofs.Common.{◌≡◌, [], ◌∷◌, ◌++◌, ap, ◌∙◌, sym, append_assoc, append-nil}
+use Rattle.std.proofs.Common.{[], ◌∷◌, ◌++◌, ap, ◌∙◌, sym, append_assoc, append-nil}
 use Rattle.index_lists.proofs.RowLaws.{first_split, first_none}
 use Rattle.index_lists.proofs.tests.nodes_of.Goals as goal
 
 pub loop-at-preserved : goal.loop-at-preserved
 loop-at-preserved c =
     let parts = c.loop-at.invariant in
-    let next = first_split parts.0 c.in-Some.node (sym parts.1 ∙ c.in-Some.is) in
-    (next.0
-    , c.next-at.ensures c.args.head c.loop-at.nodes.items next.0 (sym parts.2 ∙ ap (λ l. c.loop-at.nodes.items ++ l) next.1)
-    , ap (λ l. l ++ next.0) c.in_ok-push.ensures.items ∙ append_assoc c.loop-at.nodes.items (c.in-Some.node ∷ []) next.0 ∙ ap (λ l. c.loop-at.nodes.items ++ l) (sym next.1) ∙ parts.2)
+    let next = first_split parts.0 c.in-Some.node (sym parts.1 ∙ c.in-Some.is) in (
+      next.0,
+      c.next-at.ensures c.args.head c.loop-at.nodes.items next.0 (sym parts.2 ∙ ap (λ l. c.loop-at.nodes.items ++ l) next.1),
+      ap (λ l. l ++ next.0) c.in_ok-push.ensures.items ∙ append_assoc c.loop-at.nodes.items (c.in-Some.node ∷ []) next.0 ∙ ap (λ l. c.loop-at.nodes.items ++ l) (sym next.1) ∙ parts.2,
+    )
 
 pub returns : goal.returns
 returns c =

@@ -1,4 +1,4 @@
-use Rattle.std.proofs.Common.{◌≡◌, ◌<◌, length, ap, ◌∙◌, arith, slice_get}
+use Rattle.std.proofs.Common.{◌<◌, length, ap, ◌∙◌, arith, slice_get}
 use Rattle.std.proofs.lemmas.List.{get_or_read}
 use Rattle.index_lists.specs.declared.chains.Ends.{Ends}
 use Rattle.index_lists.specs.Lists.{list_at}

@@ -1,4 +1,4 @@
-use Rattle.std.proofs.Common.{◌≡◌, ◌++◌, ◌∷◌, [], ap, ◌∙◌, sym, arith, set}
+use Rattle.std.proofs.Common.{◌++◌, ◌∷◌, [], ap, ◌∙◌, sym, arith, set}
 use Rattle.std.proofs.lemmas.List.{get_or_read}
 use Rattle.index_lists.specs.declared.chains.Ends.{Ends}
 use Rattle.index_lists.specs.Lists.{list_at}

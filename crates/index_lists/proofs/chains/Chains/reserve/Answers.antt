@@ -1,4 +1,4 @@
-use Rattle.std.proofs.Common.{◌≡◌, ap, ◌∙◌, arith, refl}
+use Rattle.std.proofs.Common.{ap, ◌∙◌, arith, refl}
 use Rattle.index_lists.specs.Chains.{Table, AreLinked, lists_between}
 use Rattle.index_lists.proofs.TableLemmas.{AreLinked-longer, AreLinked-itself, AreLinked-lists}
 use Rattle.index_lists.proofs.chains.Chains.reserve.Goals as goal

@@ -1,4 +1,4 @@
-use Rattle.std.proofs.Common.{◌≡◌, ◌≤◌, length, ap, ◌∙◌, arith}
+use Rattle.std.proofs.Common.{ap, ◌∙◌, arith}
 use Rattle.index_lists.specs.Lists.{padded}
 use Rattle.index_lists.specs.Chains.{Table, AreLinked, lists_between}
 use Rattle.index_lists.proofs.TableLemmas.{AreLinked-padded, AreLinked-itself, AreLinked-lists, AreLinked-apart}
