@@ -54,9 +54,11 @@ pub next_linked : (lists : Lists) (side : Side) (node : ℕ) (next : Option ℕ)
 next_linked lists side node None linked value = tt
 next_linked lists side node (Some next) linked value =
     let parts = split_at (list_of lists side linked.0) node linked.1 in
-    let later = first_split parts.1 next (sym (value linked.0 parts.0 parts.1 parts.2)) in
-    (linked.0, subst (λ nodes. Contains nodes next) (sym parts.2)
-    (Contains-append_right parts.0 (node ∷ parts.1) next (Contains-rest node parts.1 next (subst (λ nodes. Contains nodes next) (sym later.1) (Contains-first next later.0)))))
+    let later = first_split parts.1 next (sym (value linked.0 parts.0 parts.1 parts.2)) in (
+      linked.0,
+      subst (λ nodes. Contains nodes next) (sym parts.2)
+          (Contains-append_right parts.0 (node ∷ parts.1) next (Contains-rest node parts.1 next (subst (λ nodes. Contains nodes next) (sym later.1) (Contains-first next later.0)))),
+    )
 
 -- what is linked is in range
 pub linked_in_range : (lists : Lists) (sound : AreSound lists) (side : Side) (found : Option ℕ) → IfSome found (IsLinked lists side) → IfSome found (λ node. node < lists.nodes)

@@ -39,12 +39,16 @@ invariant_of-self-inside-in-Second c = (
 
 pub returns-in-First-clause-linked : goal.returns-in-First-clause-linked
 returns-in-First-clause-linked c =
-    subst (λ (side : Side). IsLinked (lists_from c.link_last.new.self c.self.inside.second c.saturating_add-self-inside.result) side c.args.node) (sym c.in-First.is)
-    (c.args.head, subst (λ lists. Contains (list_at lists c.args.head) c.args.node) (sym c.link_last.ensures.lists)
-    (pushed_there c.self.inside.first.lists c.args.head c.args.node (rw (← c.self.view_is) at c.requires.head_in)))
+    subst (λ (side : Side). IsLinked (lists_from c.link_last.new.self c.self.inside.second c.saturating_add-self-inside.result) side c.args.node) (sym c.in-First.is) (
+      c.args.head,
+      subst (λ lists. Contains (list_at lists c.args.head) c.args.node) (sym c.link_last.ensures.lists)
+          (pushed_there c.self.inside.first.lists c.args.head c.args.node (rw (← c.self.view_is) at c.requires.head_in)),
+    )
 
 pub returns-in-Second-clause-linked : goal.returns-in-Second-clause-linked
 returns-in-Second-clause-linked c =
-    subst (λ (side : Side). IsLinked (lists_from c.self.inside.first c.link_last-in-Second.new.self c.saturating_add-self-inside.result) side c.args.node) (sym c.in-Second.is)
-    (c.args.head, subst (λ lists. Contains (list_at lists c.args.head) c.args.node) (sym c.link_last-in-Second.ensures.lists)
-    (pushed_there c.self.inside.second.lists c.args.head c.args.node (omega (arith, c.self.inside.sound.count Second, rw (← c.self.view_is) at c.requires.head_in))))
+    subst (λ (side : Side). IsLinked (lists_from c.self.inside.first c.link_last-in-Second.new.self c.saturating_add-self-inside.result) side c.args.node) (sym c.in-Second.is) (
+      c.args.head,
+      subst (λ lists. Contains (list_at lists c.args.head) c.args.node) (sym c.link_last-in-Second.ensures.lists)
+          (pushed_there c.self.inside.second.lists c.args.head c.args.node (omega (arith, c.self.inside.sound.count Second, rw (← c.self.view_is) at c.requires.head_in))),
+    )
