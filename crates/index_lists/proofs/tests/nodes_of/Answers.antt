@@ -7,7 +7,7 @@ loop-at-preserved c =
     let parts = c.loop-at.invariant in
     let next = first_split parts.0 c.in-Some.node (sym parts.1 ∙ c.in-Some.is) in (
       next.0,
-      c.next-at.ensures c.args.head c.loop-at.nodes.items next.0 (sym parts.2 ∙ ap (λ l. c.loop-at.nodes.items ++ l) next.1),
+      c.next-at.ensures.value c.args.head c.loop-at.nodes.items next.0 (sym parts.2 ∙ ap (λ l. c.loop-at.nodes.items ++ l) next.1),
       ap (λ l. l ++ next.0) c.in_ok-push.ensures.items ∙ append_assoc c.loop-at.nodes.items (c.in-Some.node ∷ []) next.0 ∙ ap (λ l. c.loop-at.nodes.items ++ l) (sym next.1) ∙ parts.2,
     )
 
