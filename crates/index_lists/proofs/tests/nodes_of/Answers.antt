@@ -1,6 +1,14 @@
 use Rattle.std.proofs.Common.{[], ◌∷◌, ◌++◌, ap, ◌∙◌, sym, append_assoc, append-nil}
-use Rattle.index_lists.proofs.RowLaws.{first_split, first_none}
+use Rattle.std.proofs.Common.{subst}
+use Rattle.std.specs.List.{Contains}
+use Rattle.index_lists.proofs.RowLaws.{Contains-split, first_split, first_none}
 use Rattle.index_lists.proofs.tests.nodes_of.Goals as goal
+
+pub next-at-requires : goal.next-at-requires
+next-at-requires c =
+    let parts = c.loop-at.invariant in
+    let next = first_split parts.0 c.in-Some.node (sym parts.1 ∙ c.in-Some.is) in
+    (c.args.head, subst (λ nodes. Contains nodes c.in-Some.node) (ap (λ l. c.loop-at.nodes.items ++ l) (sym next.1) ∙ parts.2) (Contains-split c.loop-at.nodes.items c.in-Some.node next.0))
 
 pub loop-at-preserved : goal.loop-at-preserved
 loop-at-preserved c =
