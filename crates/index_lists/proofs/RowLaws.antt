@@ -189,6 +189,10 @@ module _ (lists : Lists) where
       (head, subst (λ l. Contains l node) (sym (list_of-linked_last side head node within)) (Contains-push (list_of lists side head) node))
 
   module _ (sound : AreSound lists) where
+    -- a move never lowers the number
+    pub moves_rise : lists.moves ≤ moved lists.moves
+    moves_rise = moved-ge lists.moves sound.few_moves
+
     -- a head in range has a list
     pub within_lists : (side : Side) (head : ℕ) → head < lists.heads → head < length (lists_of lists side)
     within_lists side head within = omega (arith, within, sound.count side)

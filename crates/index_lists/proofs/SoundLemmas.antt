@@ -1,5 +1,5 @@
 -- What two sides that are apart make of the lists that a contract sees.
-use Rattle.std.proofs.Common.{◌<◌, ◌∷◌, ◌++◌, map, set, get_or-set_same, Option, Some, None, slice_get, IfSome, ◌≡◌, ℕ, ◌-◌, ◌≤◌, List, [], replicate, length, arith, refl, sym, subst}
+use Rattle.std.proofs.Common.{◌^◌, ◌<◌, ◌∷◌, ◌++◌, map, set, get_or-set_same, Option, Some, None, slice_get, IfSome, ◌≡◌, ℕ, ◌-◌, ◌≤◌, List, [], replicate, length, arith, refl, sym, subst}
 use Rattle.std.proofs.lemmas.List.{length-append, length-replicate}
 use Rattle.std.specs.List.{Contains}
 use Rattle.std.proofs.lemmas.List.Elements.{Contains-push, Contains-append_right}
@@ -17,8 +17,8 @@ length-padded lists heads more =
     omega (arith, length-append lists (replicate (heads - length lists) []), length-replicate {A = List ℕ} (heads - length lists) [], more)
 
 module _ (first second : Table) (moves : ℕ) where
-  pub AreSound-sides : second.nodes ≡ first.nodes → length second.lists ≡ length first.lists → IsApart first.nodes (list_at first.lists) → IsApart second.nodes (list_at second.lists) → AreSound (lists_from first second moves)
-  AreSound-sides nodes heads first_apart second_apart = record { count = count; apart = apart }
+  pub AreSound-sides : moves ≤ 2 ^ 64 - 1 → second.nodes ≡ first.nodes → length second.lists ≡ length first.lists → IsApart first.nodes (list_at first.lists) → IsApart second.nodes (list_at second.lists) → AreSound (lists_from first second moves)
+  AreSound-sides few nodes heads first_apart second_apart = record { few_moves = few; count = count; apart = apart }
     where
       count : (side : Side) → length (lists_of (lists_from first second moves) side) ≡ length first.lists
       count First = refl

@@ -3,7 +3,7 @@
 --     IsLinked lists side node     the node is in some list of the side
 --     grown, linked_last, unlinked what `grow`, `link_last` and `unlink` make of the lists
 --     AreSound lists               what is true of the lists of every `Rows`
-use Rattle.std.specs.Prelude.{◌≡◌, ◌≢◌, ℕ, ◌+◌, ◌-◌, ◌^◌, ◌<◌, min, not, ◌==◌, List, [], ◌∷◌, ◌++◌, length, map, replicate, slice_index_or, slice_set, refl}
+use Rattle.std.specs.Prelude.{◌≡◌, ◌≢◌, ℕ, ◌+◌, ◌-◌, ◌^◌, ◌<◌, ◌≤◌, min, not, ◌==◌, List, [], ◌∷◌, ◌++◌, length, map, replicate, slice_index_or, slice_set, refl}
 use Rattle.std.specs.List.{filter, Contains, AllPairs}
 use Rattle.std.specs.Coded.{Coded, code_by, coded×, coded_ℕ, coded_list}
 use base.Stored.{coded_via}
@@ -83,8 +83,9 @@ pub record IsApart (nodes : ℕ) (list : ℕ → List ℕ) : Type 0 where
   pub one : (head other node : ℕ) → Contains (list head) node → Contains (list other) node → head ≡ other
   pub once : (head : ℕ) → IsOnce (list head)
 
--- each side has a list for each head, and is apart
+-- each side has a list for each head, and is apart, and the number of moves fits a `u64`
 pub record AreSound (lists : Lists) : Type 0 where
+  pub few_moves : lists.moves ≤ 2 ^ 64 - 1
   pub count : (side : Side) → length (lists_of lists side) ≡ lists.heads
   pub apart : (side : Side) → IsApart lists.nodes (list_of lists side)
 

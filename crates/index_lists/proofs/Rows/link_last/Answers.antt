@@ -22,6 +22,7 @@ link_last-requires-in-Second-clause-free c other found =
 pub invariant_of-self-inside : goal.invariant_of-self-inside
 invariant_of-self-inside c = (
   AreSound-sides c.link_last.new.self c.self.inside.second _
+      (omega (arith, c.saturating_add-self-inside.ensures))
       (c.self.invariant ∙ sym c.link_last.ensures.nodes)
       (c.self.inside.sound.count Second ∙ sym (ap length c.link_last.ensures.lists ∙ length-set _ _ _))
       c.link_last.ensures.apart (second_apart c.self.inside.first c.self.inside.second _ c.self.invariant c.self.inside.sound),
@@ -31,6 +32,7 @@ invariant_of-self-inside c = (
 pub invariant_of-self-inside-in-Second : goal.invariant_of-self-inside-in-Second
 invariant_of-self-inside-in-Second c = (
   AreSound-sides c.self.inside.first c.link_last-in-Second.new.self _
+      (omega (arith, c.saturating_add-self-inside.ensures))
       (c.link_last-in-Second.ensures.nodes ∙ c.self.invariant)
       (ap length c.link_last-in-Second.ensures.lists ∙ length-set _ _ _ ∙ c.self.inside.sound.count Second)
       (c.self.inside.sound.apart First) c.link_last-in-Second.ensures.apart,
