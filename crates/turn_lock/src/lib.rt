@@ -4,6 +4,8 @@
 mod crossing;
 mod lock;
 mod told;
+#[cfg(test)]
+mod tests;
 mod view;
 
 pub use lock::{Held, Pass, Turn, TurnLock, TurnOut};
