@@ -1,9 +1,9 @@
 ghost use Rattle.std.specs.Prelude.{◌≡◌, ◌++◌, ◌∷◌, [], IfOk, OnOk, OnErr};
 ghost use mathlib.Core.List.{IsPrefix};
-ghost use Rattle.turn_lock.specs.Passes.{IsPassOf};
+ghost use Rattle.turn_lock.specs.Passes.{IsPassOf, HasTurn};
 ghost use Rattle.turn_lock.specs.declared.tests.Journal.{Journal};
 
-use crate::{Held, Pass, Told, TurnLock};
+use crate::{Held, Pass, Told, Turn, TurnLock, TurnOut};
 use std::alloc::{AllocError, Global};
 use std::process::Abort;
 use std::sync::Wait;
@@ -183,5 +183,154 @@ fn two_threads_lose_no_line(rt: HostRuntime) -> Result<(), Fail> {
     assert_eq!(rt; journal.lines.len() as u64, ROUNDS + ROUNDS);
     assert_eq!(rt; journal.count_in_order(&rt, 1), ROUNDS);
     assert_eq!(rt; journal.count_in_order(&rt, 2), ROUNDS);
+    Ok(())
+}
+
+fn write_waiting<R: Wait + Abort>(
+    rt: &R,
+    lock: &TurnLock<Journal>,
+    mut pass: Pass<Journal>,
+    writer: u64,
+) -> Pass<Journal>
+    requires { IsPassOf (λ (j : Journal). j.owner) lock.now pass }
+    ensures { IsPassOf (λ (j : Journal). j.owner) lock.now result }
+{
+    for number in 0..ROUNDS {
+        let mut turn = lock.enter(rt, &mut pass);
+        let line = Line { writer, number };
+        let is_added = turn.value().add(line).is_ok();
+        turn.leave();
+        assert!(rt; is_added, "no memory");
+    }
+    pass
+}
+
+// The pass, which was joined with the writers', finds all that they wrote.
+fn count_lines<R: Wait + Abort>(
+    rt: &R,
+    lock: &TurnLock<Journal>,
+    pass: &mut Pass<Journal>,
+    writer: u64,
+) -> u64
+    requires { IsPassOf (λ (j : Journal). j.owner) lock.now pass.old }
+    ensures { IsPassOf (λ (j : Journal). j.owner) lock.now pass.new }
+{
+    let mut turn = lock.enter(rt, pass);
+    let count = turn.value().count_in_order(rt, writer);
+    turn.leave();
+    count
+}
+
+fn write_two<R: Threads + Wait + Abort + Sync>(
+    rt: &R,
+    lock: &TurnLock<Journal>,
+    mut one: Pass<Journal>,
+    writers: (u64, u64),
+) -> Pass<Journal>
+    requires { IsPassOf (λ (j : Journal). j.owner) lock.now one }
+    ensures { IsPassOf (λ (j : Journal). j.owner) lock.now result }
+{
+    let two = lock.split_pass(&mut one);
+    let (mut one, two) = join(
+        rt,
+        || -> Pass<Journal>
+            requires { IsPassOf (λ (j : Journal). j.owner) lock.now one }
+            ensures { IsPassOf (λ (j : Journal). j.owner) lock.entry.now result }
+        { write_waiting(rt, lock, one, writers.0) },
+        || -> Pass<Journal>
+            requires { IsPassOf (λ (j : Journal). j.owner) lock.now two }
+            ensures { IsPassOf (λ (j : Journal). j.owner) lock.entry.now result }
+        { write_waiting(rt, lock, two, writers.1) },
+    );
+    lock.join_pass(&mut one, two);
+    let counts = (
+        count_lines(rt, lock, &mut one, writers.0),
+        count_lines(rt, lock, &mut one, writers.1),
+    );
+    assert_eq!(rt; counts, (ROUNDS, ROUNDS));
+    one
+}
+
+fn write_four<R: Threads + Wait + Abort + Sync>(
+    rt: &R,
+    lock: &TurnLock<Journal>,
+    mut one: Pass<Journal>,
+) -> Pass<Journal>
+    requires { IsPassOf (λ (j : Journal). j.owner) lock.now one }
+    ensures { IsPassOf (λ (j : Journal). j.owner) lock.now result }
+{
+    let two = lock.split_pass(&mut one);
+    let (mut one, two) = join(
+        rt,
+        || -> Pass<Journal>
+            requires { IsPassOf (λ (j : Journal). j.owner) lock.now one }
+            ensures { IsPassOf (λ (j : Journal). j.owner) lock.entry.now result }
+        { write_two(rt, lock, one, (1, 2)) },
+        || -> Pass<Journal>
+            requires { IsPassOf (λ (j : Journal). j.owner) lock.now two }
+            ensures { IsPassOf (λ (j : Journal). j.owner) lock.entry.now result }
+        { write_two(rt, lock, two, (3, 4)) },
+    );
+    lock.join_pass(&mut one, two);
+    one
+}
+
+#[test]
+fn passes_split_and_join_across_threads(rt: HostRuntime) -> Result<(), Fail> {
+    let (lock, pass) = TurnLock::new(rt.alloc(), Journal::new(rt.alloc(), 7))?;
+    let _ = write_four(&rt, &lock, pass);
+    let journal = lock.close().ok().ok_or("the turn is out")?;
+    assert_eq!(rt; journal.lines.len() as u64, ROUNDS * 4);
+    for writer in 1..5 {
+        assert_eq!(rt; journal.count_in_order(&rt, writer), ROUNDS);
+    }
+    Ok(())
+}
+
+fn is_held(lock: &TurnLock<Journal>, pass: &mut Pass<Journal>) -> bool
+    requires { IsPassOf (λ (j : Journal). j.owner) lock.now pass.old }
+    ensures { IsPassOf (λ (j : Journal). j.owner) lock.now pass.new }
+{
+    match pass.try_enter(lock) {
+        Ok(turn) => {
+            turn.leave();
+            false
+        }
+        Err(Held) => true,
+    }
+}
+
+// Only a type that is `Drop` can be leaked, and a `Turn` is not.
+struct Leavable<'a> {
+    turn: Turn<'a, Journal>,
+    ghost is_leavable: { HasTurn (λ (j : Journal). j.owner) (λ (j : Journal). j.lines.items) turn.lock.now turn.pass.now turn.at_entry.value × (turn.value ≡ turn.at_entry.value) },
+}
+
+impl Drop for Leavable<'_> {
+    fn drop(self) {
+        let Leavable { turn } = self;
+        turn.leave();
+    }
+}
+
+#[test]
+fn a_turn_is_held_by_one_pass(rt: HostRuntime) -> Result<(), Fail> {
+    let (lock, mut one) = TurnLock::new(rt.alloc(), Journal::new(rt.alloc(), 7))?;
+    let mut two = lock.split_pass(&mut one);
+    let mut turn = lock.enter(&rt, &mut one);
+    let is_added = turn
+        .value()
+        .add(Line {
+            writer: 1,
+            number: 0,
+        })
+        .is_ok();
+    let is_held = is_held(&lock, &mut two);
+    turn.leave();
+    assert!(rt; is_added && is_held);
+    assert_eq!(rt; count_lines(&rt, &lock, &mut two, 1), 1);
+    let turn = lock.enter(&rt, &mut one);
+    std::mem::forget(Leavable { turn });
+    assert_eq!(rt; lock.close().err(), Some(TurnOut));
     Ok(())
 }
