@@ -3,9 +3,9 @@
 
 mod crossing;
 mod lock;
-mod told;
 #[cfg(test)]
 mod tests;
+mod told;
 mod view;
 
 pub use lock::{Held, Pass, Turn, TurnLock, TurnOut};
