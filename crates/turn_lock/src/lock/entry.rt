@@ -48,6 +48,16 @@ impl<T: Told> TurnLock<T> {
         unreachable!()
     }
 
+    /// Enters the lock where no pass holds the turn.
+    pub fn try_enter<'a>(&'a self, pass: &'a mut Pass<T>) -> Result<Turn<'a, T>, Held>
+        requires { IsPassOf T.project self.now pass.old }
+        ensures* held { sem 𝓛 (RestsIfErr (the_row T.row T.Project.row T.Entry.row T.State.row) pass.entry (λ t. t.pass.ghost_name) result (LosesTake T.project self.now pass.old)) }
+        ensures same_reference { IfOk result (λ t. t.pass.ghost_name ≡ pass.entry.ghost_name) }
+        ensures entered { IfOk result (λ t. HasEntered T.project T.log self.now pass.old t) }
+    {
+        pass.try_enter(self)
+    }
+
     /// Waits for the turn.
     pub fn enter<'a, R: Wait>(&'a self, rt: &R, pass: &'a mut Pass<T>) -> Turn<'a, T>
         requires { IsPassOf T.project self.now pass.old }
