@@ -287,11 +287,10 @@ fn passes_split_and_join_across_threads(rt: HostRuntime) -> Result<(), Fail> {
     Ok(())
 }
 
-fn is_held(lock: &TurnLock<Journal>, pass: &mut Pass<Journal>) -> bool
-    requires { IsPassOf (λ (j : Journal). j.owner) lock.now pass.old }
-    ensures { IsPassOf (λ (j : Journal). j.owner) lock.now pass.new }
+fn is_held(lock: &TurnLock<Journal>, mut pass: Pass<Journal>) -> bool
+    requires { IsPassOf (λ (j : Journal). j.owner) lock.now pass }
 {
-    match pass.try_enter(lock) {
+    match lock.try_enter(&mut pass) {
         Ok(turn) => {
             turn.leave();
             false
@@ -317,6 +316,8 @@ impl Drop for Leavable<'_> {
 fn a_turn_is_held_by_one_pass(rt: HostRuntime) -> Result<(), Fail> {
     let (lock, mut one) = TurnLock::new(rt.alloc(), Journal::new(rt.alloc(), 7))?;
     let mut two = lock.split_pass(&mut one);
+    let three = lock.split_pass(&mut two);
+    let four = lock.split_pass(&mut two);
     let mut turn = lock.enter(&rt, &mut one);
     let is_added = turn
         .value()
@@ -325,9 +326,10 @@ fn a_turn_is_held_by_one_pass(rt: HostRuntime) -> Result<(), Fail> {
             number: 0,
         })
         .is_ok();
-    let is_held = is_held(&lock, &mut two);
+    let is_out = is_held(&lock, three);
     turn.leave();
-    assert!(rt; is_added && is_held);
+    assert!(rt; is_added && is_out);
+    assert!(rt; !is_held(&lock, four));
     assert_eq!(rt; count_lines(&rt, &lock, &mut two, 1), 1);
     let turn = lock.enter(&rt, &mut one);
     std::mem::forget(Leavable { turn });

@@ -14,7 +14,8 @@ impl<T: Told> TurnLock<T> {
         requires { IsPassOf T.project self.now pass.old }
         ensures pass { IsPassOf T.project self.now pass.new }
         ensures splits { splits_of pass.new ≡ splits_of pass.old + 1 }
-        ensures same { (seen_by pass.new ≡ seen_by pass.old) × (left_by pass.new ≡ left_by pass.old) × (lost_by pass.new ≡ lost_by pass.old) }
+        ensures same { (seen_by pass.new ≡ seen_by pass.old)
+            × (left_by pass.new ≡ left_by pass.old) × (lost_by pass.new ≡ lost_by pass.old) }
 
         ensures new_pass { IsPassOf T.project self.now result }
         ensures seen { seen_by result ≡ seen_by pass.old }
@@ -37,7 +38,8 @@ impl<T: Told> TurnLock<T> {
         ensures begun_by_this { IsPrefix (seen_by pass.old) (seen_by pass.new) }
         ensures begun_by_other { IsPrefix (seen_by other) (seen_by pass.new) }
 
-        ensures same { (left_by pass.new ≡ left_by pass.old) × (splits_of pass.new ≡ splits_of pass.old) × (lost_by pass.new ≡ lost_by pass.old) }
+        ensures same { (left_by pass.new ≡ left_by pass.old)
+            × (splits_of pass.new ≡ splits_of pass.old) × (lost_by pass.new ≡ lost_by pass.old) }
     {
         let Pass { seat } = other;
         let shared = &self.table.shared;

@@ -39,7 +39,10 @@ impl<'a, T: Told> Turn<'a, T> {
 
     /// The value, to be read and changed.
     pub fn value(&mut self) -> &mut T
-        ensures* writes_back { sem 𝓛 (Lends (turn_row (record { mir = named 1; lft = [] }) T.row T.Project.row T.Entry.row T.State.row T.Told) T.row self.entry result (with_value self.old)) }
+        ensures* writes_back { sem 𝓛 (Lends
+            (turn_row (record { mir = named 1; lft = [] })
+            T.row T.Project.row T.Entry.row T.State.row T.Told)
+            T.row self.entry result (with_value self.old)) }
         ensures value { result.now ≡ self.old.value }
     {
         &mut self.value
