@@ -51,6 +51,7 @@ module _ {A : Type 0} where
   each_set K l i a here others j b e = ⊎_elim (λ (t : (j ≡ i) × (a ≡ b)). subst (λ (z : ℕ × A). K z.0 z.1) (λ k. (sym t.0 k, t.1 k)) here)
       (λ (t : (j ≢ i) × (get_elem? l j ≡ some b)). others j b t.0 t.1) (at_set l i j a b e)
 
+  -- a list of one has that one
   pub only : (a b : A) (j : ℕ) → get_elem? (a ∷ []) j ≡ some b → a ≡ b
   only a b Rattle.std.proofs.Common.zero e = some-injective a b e
   only a b (Rattle.std.proofs.Common.suc j) e = absurd (some-ne-none b (sym e))
@@ -60,6 +61,7 @@ module _ {A : Type 0} where
   held_or d ((k, Some x) ∷ c) = x
   held_or d ((k, None) ∷ c) = d
 
+  -- a slot has one value
   pub in_slot : (x y : A) (c : List (ℕ × Option A)) → c ≡ (0, Some x) ∷ [] → c ≡ (0, Some y) ∷ [] → x ≡ y
   in_slot x y c a b = ap (held_or x) (sym a ∙ b)
 
@@ -69,6 +71,7 @@ module _ {A : Type 0} where
   pub prefix_trans : (xs ys zs : List A) → IsPrefix xs ys → IsPrefix ys zs → IsPrefix xs zs
   prefix_trans xs ys zs p q = (p.0 ++ q.0, sym (append_assoc xs p.0 q.0) ∙ (ap (λ l. l ++ q.0) p.1 ∙ q.1))
 
+-- of two lists the shorter is no longer than the longer
 pub short_long : {E : Type 0} (xs ys : List E) → length (shorter xs ys) ≤ length (longer xs ys)
 short_long xs ys = grind (arith, nat_tests)
 
@@ -131,6 +134,7 @@ module _ {T P E S : Type 0} (project : T → P) (log_of : T → List E) (p : P) 
     each = each_set (IsPassView p r.log r.turn r.holder) s.views id w is (λ j u _ e. r.each j u e);
   }
 
+  -- a take, won or lost
   pub took : (slots id : ℕ) (me : PassSeat T P E S) → me.0.hold ≡ Free → Allows (MeetsRule project log_of p) slots id me 0 (λ n. either (eqb n 0) 1 n) (Takes project log_of (step slots 0 0 1 none) me)
   took slots id me is s r deep at _ =
       let found : get_or s.words 0 0 ≡ r.turn = ap (λ (ws : List ℕ). get_or ws 0 0) r.words in
@@ -168,7 +172,7 @@ module _ {T P E S : Type 0} (project : T → P) (log_of : T → List E) (p : P) 
         ((λ free. absurd (busy free)), λ _. (omega arith, (is, refl))),
       ))
 
-  -- who holds the turn, and has the value in the slot
+  -- the length raised, by the pass that holds the turn and has the value in the slot
   pub raised : (slots id : ℕ) (me : PassSeat T P E S) (taken : List E) (x : T) (n : ℕ) → me.0.hold ≡ Taken taken → me.1 ≡ (0, Some x) ∷ [] → project x ≡ p → IsPrefix taken (log_of x) → n ≡ length (log_of x)
       → Allows (MeetsRule project log_of p) slots id me 1 (λ _. n) (λ _. Raises log_of (step slots 1 n 0 none) me n)
   raised slots id me taken x n is has same grows long s r deep at _ =
@@ -197,6 +201,7 @@ module _ {T P E S : Type 0} (project : T → P) (log_of : T → List E) (p : P) 
         λ y e. let u : x ≡ y = in_slot x y me.1 has e in ap (λ (z : T). let m : PassSeat T P E S = (record me.0 { seen = log_of z; hold = Raised (taken_log me.0.hold) }, me.1) in m) u,
       )
 
+  -- the release, by the pass that has raised the length
   pub released : (state : T → S) (slots id : ℕ) (me : PassSeat T P E S) (taken : List E) (x : T) → me.0.hold ≡ Raised taken → me.1 ≡ (0, Some x) ∷ [] → project x ≡ p → me.0.seen ≡ log_of x
       → Allows (MeetsRule project log_of p) slots id me 0 (λ _. 0) (λ _. Releases state (step slots 0 0 0 none) me 0)
   released state slots id me taken x is has same whole s r deep at _ =
@@ -224,6 +229,7 @@ module _ {T P E S : Type 0} (project : T → P) (log_of : T → List E) (p : P) 
             (λ i. (record me.0 { hold = Free; left = Some (state (u i)) }, ap rest has i)),
       )
 
+  -- the table at the start
   pub opens : (value : T) (q : S) (n : ℕ) (slots : List (Option T)) → project value ≡ p → n ≡ length (log_of value) → slots ≡ Some value ∷ [] → MeetsRule project log_of p (opening (0 ∷ n ∷ []) slots (first_view p (log_of value) q))
   opens value q n slots same long only_one = record {
     log = log_of value;
@@ -256,6 +262,7 @@ module _ {T P E S : Type 0} (project : T → P) (log_of : T → List E) (p : P) 
         (at_snoc s.views w v j e);
   }
 
+  -- a split and a join of passes, and the load after a join
   pub splits : (id : ℕ) (v : View P E S) → Splits (MeetsRule project log_of p) id v (after_split v) (split_off v)
   unfolding turns_view
   splits id v s r at =

@@ -24,14 +24,16 @@ module _ {T P E S : Type 0} where
   abbrev pub lost_by : Pass T P E S → ℕ
   lost_by p = p.seat.me.0.lost
 
+  -- how many passes were split off it
   abbrev pub splits_of : Pass T P E S → ℕ
   splits_of p = p.seat.me.0.splits
 
 module _ {T P E S : Type 0} (project : T → P) where
+  -- the project of a lock, which its first value had
   abbrev pub project_of : TurnLock T P E S → P
   project_of l = project l.table.shared.key.value
 
-  -- it is of this lock, and of its project, and holds no turn
+  -- the pass is of this lock, and of its project, and holds no turn
   pub record IsPassOf (l : TurnLock T P E S) (p : Pass T P E S) : Type 0 where
     pub table : p.seat.table_id ≡ l.table.shared.table_id
     pub its_project : p.seat.me.0.project ≡ Some (project_of l)
@@ -48,7 +50,7 @@ module _ {T P E S : Type 0} (project : T → P) (log_of : T → List E) where
     pub same : project entry ≡ project_of project l
 
 module _ {T P E S : Type 0} where
-  -- while it takes a turn, a pass keeps what it has seen and left, and its splits. Takes may be lost
+  -- a pass keeps what it has seen and left, and its splits. Takes may be lost
   pub record KeepsHistory (p q : Pass T P E S) : Type 0 where
     pub seen : seen_by q ≡ seen_by p
     pub left : left_by q ≡ left_by p
@@ -74,8 +76,11 @@ module _ {T P E S : Type 0} (project : T → P) (log_of : T → List E) where
     pub seen : IsPrefix (seen_by p) (log_of t.value)
     pub pass : KeepsHistory p t.pass.now
 
--- How a table ended: word 0 was 0 and the value was at home, or word 0 was 1
+-- How a lock ended, by the last state of its table, which met the rule:
+-- word 0 was 0, the value was at home, and word 1 was the length of its log; or word 0 was 1
 pub record IsClosed {T P E S : Type 0} (project : T → P) (log_of : T → List E) (l : TurnLock T P E S) (r : Result T TurnOut) : Type 0 where
   pub last : State (Option T) (View P E S)
-  pub kept : MeetsRule project log_of (project_of project l) last
-  pub answer : MatchResult r (λ x. (slice_index last.words 0 ≡ 0) × (last.homes ≡ some (Some x) ∷ []) × (slice_index last.words 1 ≡ length (log_of x))) (λ _. slice_index last.words 0 ≡ 1)
+  pub ruled : MeetsRule project log_of (project_of project l) last
+  pub answer : MatchResult r
+      (λ x. (slice_index last.words 0 ≡ 0) × (last.homes ≡ some (Some x) ∷ []) × (slice_index last.words 1 ≡ length (log_of x)))
+      (λ _. slice_index last.words 0 ≡ 1)

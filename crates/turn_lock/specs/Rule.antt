@@ -1,4 +1,5 @@
--- The rule of the table, and what each step tells.
+-- The rule of a lock's table, and what each kind of step tells.
+-- There is one log, of the length in word 1, and each pass has seen a beginning of it. Word 0 is 1 exactly where one pass holds the turn, and the value is at home exactly where it is 0.
 use Rattle.std.specs.Prelude.{nat_lt, if◌then◌else◌, ◌≡◌, ◌≢◌, ℕ, ◌+◌, ◌≤◌, Bool, true, false, List, [], ◌∷◌, length, Option, Some, None}
 use mathlib.Core.Option.{none, some}
 use mathlib.Core.Option as maybe
@@ -21,7 +22,7 @@ module _ {E : Type 0} where
   taken_log (Taken taken) = taken
   taken_log (Raised taken) = taken
 
-  -- Only one pass holds the turn. The log that it took is the lock's until it raises the length, and from then on the log that it has seen
+  -- Only the pass of the seat `holder` holds the turn. The log that it took is the lock's until it raises the length, and from then on the log that it has seen
   abbrev pub MayHold : List E → ℕ → ℕ → ℕ → List E → Hold E → Type 0
   MayHold log turn holder seat seen Free = Unit {0}
   MayHold log turn holder seat seen (Taken taken) = (turn ≡ 1) × (seat ≡ holder) × (taken ≡ log)
@@ -51,6 +52,7 @@ module _ {P E S : Type 0} where
   spent_view = record { project = None; seen = []; shorter_seen = []; hold = Free; left = None; lost = 0; splits = 0 }
 
 module _ {P E S : Type 0} where
+  -- the pass that a new lock comes with
   abbrev pub first_view : P → List E → S → View P E S
   first_view p log state = record { project = Some p; seen = log; shorter_seen = []; hold = Free; left = Some state; lost = 0; splits = 0 }
 
@@ -77,6 +79,7 @@ module _ {T P E : Type 0} (project : T → P) (log_of : T → List E) where
     pub log_is : log_of value ≡ log
 
 module _ {T P E S : Type 0} (project : T → P) (log_of : T → List E) where
+  -- the rule: p is the lock's project
   pub record MeetsRule (p : P) (s : State (Option T) (View P E S)) : Type 0 where
     pub log : List E
     pub turn : ℕ
@@ -89,6 +92,7 @@ module _ {T P E S : Type 0} (project : T → P) (log_of : T → List E) where
     pub away : turn ≡ 1 → IsTaken holder home s.views
     pub each : (seat : ℕ) (v : View P E S) → get_elem? s.views seat ≡ some v → IsPassView p log turn holder seat v
 
+-- a pass's view, and the slot that it has
 abbrev pub PassSeat : Type 0 → Type 0 → Type 0 → Type 0 → Type 0
 PassSeat T P E S = Me (Option T) (View P E S)
 
@@ -102,6 +106,7 @@ abbrev pub Loses : {T P E S : Type 0} → PassSeat T P E S → PassSeat T P E S 
 Loses m m' = (m.0.hold ≡ Free) × (m' ≡ (record m.0 { lost = m.0.lost + 1 }, m.1))
 
 module _ {T P E S : Type 0} (project : T → P) (log_of : T → List E) where
+  -- the number found tells which
   abbrev pub Takes : Step (Option T) → PassSeat T P E S → ℕ → PassSeat T P E S → Type 0
   Takes st m found m' = (found ≡ 0 → Wins project log_of m m') × (found ≢ 0 → (found ≡ 1) × Loses m m')
 

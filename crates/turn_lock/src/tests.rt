@@ -1,4 +1,4 @@
-ghost use Rattle.std.specs.Prelude.{◌≡◌, ◌++◌, ◌∷◌, [], IfOk, OnOk, OnErr};
+ghost use Rattle.std.specs.Prelude.{◌≡◌, ◌++◌, ◌∷◌, [], OnOk, OnErr};
 ghost use mathlib.Core.List.{IsPrefix};
 ghost use Rattle.turn_lock.specs.Passes.{IsPassOf, HasTurn};
 ghost use Rattle.turn_lock.specs.declared.tests.Journal.{Journal};
@@ -299,10 +299,12 @@ fn is_held(lock: &TurnLock<Journal>, mut pass: Pass<Journal>) -> bool
     }
 }
 
-// Only a type that is `Drop` can be leaked, and a `Turn` is not.
+// A `Turn` is not `Drop`, so that it can be leaked in such a type alone.
 struct Leavable<'a> {
     turn: Turn<'a, Journal>,
-    ghost is_leavable: { HasTurn (λ (j : Journal). j.owner) (λ (j : Journal). j.lines.items) turn.lock.now turn.pass.now turn.at_entry.value × (turn.value ≡ turn.at_entry.value) },
+    ghost is_of_lock: { HasTurn (λ (j : Journal). j.owner) (λ (j : Journal). j.lines.items)
+        turn.lock.now turn.pass.now turn.at_entry.value },
+    ghost is_unchanged: { turn.value ≡ turn.at_entry.value },
 }
 
 impl Drop for Leavable<'_> {

@@ -1,5 +1,5 @@
 //! What a lock may know of the value that it keeps.
-ghost use Rattle.std.specs.Prelude.{◌≡◌, ℕ, List, length};
+ghost use Rattle.std.specs.Prelude.{◌≡◌, List, length};
 
 /// A value with a project that never changes, a log that only grows, and a state. Contracts see all three as plain data.
 pub trait Told {

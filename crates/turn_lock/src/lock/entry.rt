@@ -1,5 +1,5 @@
 //! How a pass takes the turn.
-ghost use Rattle.std.specs.Prelude.{◌≡◌, ◌≢◌, ℕ, ◌+◌, ◌<◌, [], IfOk, IfErr, OnErr, IsTrue, Some, MatchBool};
+ghost use Rattle.std.specs.Prelude.{◌≡◌, IfOk, OnErr, MatchBool};
 ghost use Rattle.std.specs.Borrow.{sem, RestsIfErr};
 ghost use mathlib.Core.List.{IsPrefix};
 ghost use Rattle.turn_lock.specs.Rule.{Wins, Loses};

@@ -1,5 +1,5 @@
 //! Passes for further threads.
-ghost use Rattle.std.specs.Prelude.{◌≡◌, ℕ, ◌+◌};
+ghost use Rattle.std.specs.Prelude.{◌≡◌, ◌+◌};
 ghost use mathlib.Core.List.{IsPrefix};
 ghost use Rattle.turn_lock.specs.Rule.{longer};
 ghost use Rattle.turn_lock.specs.Passes.{IsPassOf, seen_by, left_by, lost_by, splits_of};

@@ -1,7 +1,7 @@
 -- The call of `Pass::try_enter`, with the two parameters in the other order.
 use Rattle.std.proofs.Common.{[], ◌∷◌, refl}
 use mir.Syntax.{a_type, dcons, dnil, named}
-use mir.Val.{Val, vptr}
+use mir.Val.{Val}
 use mir.MapTy.{inst_fn}
 use base.Logic.{SProp, id⊢}
 use base.Fml.{Fml, ftrue, fsep}
@@ -10,8 +10,8 @@ use types.Run.{stop, addr, no_more, and_then, returns, enter}
 use types.ByLocal.{alloc_all, pass_all, free_all, look_at, get, through, sets, lands_as}
 use contract.Running.{tables}
 use denote.Exit.{yes, no}
-use denote.RattleType.{RattleType, owns}
-use denote.Signature.{types_at, type_at, plain, named_lft}
+use denote.RattleType.{RattleType}
+use denote.Signature.{type_at, plain, named_lft}
 use denote.Steps.{nothing, peeks}
 use denote.Laws.{Is, shows}
 use denote.Param.{param, bounded}
