@@ -11,6 +11,7 @@ use lib.Seq.{set-get_or}
 use prog.Atomic.{either}
 use Rattle.atomic_table.specs.Table.{State, step, keeps, takes as taking, gives, stepped, rest, opening, Final, Allows, Splits, Joins}
 use Rattle.atomic_table.proofs.Lists.{at_set, set_else, at_longer, at_snoc}
+use Rattle.turn_lock.proofs.Logs.{prefix_refl, prefix_trans, prefix_shorter}
 use Rattle.turn_lock.specs.declared.view.View.{View}
 use Rattle.turn_lock.specs.declared.view.Hold.{Hold}
 use Rattle.turn_lock.specs.declared.view.Hold.TheVariants.{Free, Taken, Raised}
@@ -23,24 +24,6 @@ none_some : {A : Type 0} (a : A) → None ≡ Some a → ⊥
 none_some a e = cc
 
 module _ {A : Type 0} where
-  -- of two beginnings of one list the shorter begins the longer
-  pub prefix_shorter : (xs ys zs : List A) → IsPrefix xs zs → IsPrefix ys zs → length xs ≤ length ys → IsPrefix xs ys
-  prefix_shorter [] ys zs p q h = (ys, refl)
-  prefix_shorter (x ∷ xs) [] zs p q h = absurd (omega arith)
-  prefix_shorter (x ∷ xs) (y ∷ ys) [] p q h = absurd (cons_nil p.1)
-    where
-      cons_nil : {a : A} {l : List A} → a ∷ l ≡ [] → ⊥
-      cons_nil e = cc
-  prefix_shorter (x ∷ xs) (y ∷ ys) (z ∷ zs) p q h =
-      let t = prefix_shorter xs ys zs (p.0, tail_is p.1) (q.0, tail_is q.1) (omega arith) in
-      (t.0, λ i. (head_is p.1 ∙ sym (head_is q.1)) i ∷ t.1 i)
-    where
-      head_is : {a b : A} {l m : List A} → a ∷ l ≡ b ∷ m → a ≡ b
-      head_is e = cc
-
-      tail_is : {a b : A} {l m : List A} → a ∷ l ≡ b ∷ m → l ≡ m
-      tail_is e = cc
-
   pub set_at : (l : List A) (i : ℕ) (a b : A) → get_elem? l i ≡ some a → get_elem? (set l i b) i ≡ some b
   set_at [] i a b e = absurd (some-ne-none a (sym e))
   set_at (x ∷ xs) Rattle.std.proofs.Common.zero a b e = refl
@@ -64,12 +47,6 @@ module _ {A : Type 0} where
   -- a slot has one value
   pub in_slot : (x y : A) (c : List (ℕ × Option A)) → c ≡ (0, Some x) ∷ [] → c ≡ (0, Some y) ∷ [] → x ≡ y
   in_slot x y c a b = ap (held_or x) (sym a ∙ b)
-
-  pub prefix_refl : (xs : List A) → IsPrefix xs xs
-  prefix_refl xs = ([], append-nil xs)
-
-  pub prefix_trans : (xs ys zs : List A) → IsPrefix xs ys → IsPrefix ys zs → IsPrefix xs zs
-  prefix_trans xs ys zs p q = (p.0 ++ q.0, sym (append_assoc xs p.0 q.0) ∙ (ap (λ l. l ++ q.0) p.1 ∙ q.1))
 
 -- of two lists the shorter is no longer than the longer
 pub short_long : {E : Type 0} (xs ys : List E) → length (shorter xs ys) ≤ length (longer xs ys)

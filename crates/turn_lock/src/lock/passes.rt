@@ -23,9 +23,8 @@ impl<T: Told> TurnLock<T> {
         ensures unsplit { splits_of result ≡ 0 }
         ensures unlost { lost_by result ≡ 0 }
     {
-        Pass {
-            seat: self.table.shared.split_seat::<SplitPass>(&mut pass.seat),
-        }
+        let seat = self.table.shared.split_seat::<SplitPass>(&mut pass.seat);
+        Pass { seat }
     }
 
     /// The pass has then seen the longer of both logs.
