@@ -35,7 +35,7 @@ parts : (prints : List FirstPrint) (i n : ℕ) (print : FirstPrint) → i < leng
 parts prints i n print within more is =
     let all = map print_of prints in
     let front : take (i + 1) (take n all) ≡ map print_of (take i prints) ++ print_of print ∷ [] =
-        take-take (i + 1) n all more ∙ take-map print_of (i + 1) prints ∙ ap (map print_of) (take_more prints i print within) ∙ map-append print_of (take i prints) (get_or prints i print ∷ []) ∙ ap (λ p. map print_of (take i prints) ++ print_of p ∷ []) (sym is) in
+    take-take (i + 1) n all more ∙ take-map print_of (i + 1) prints ∙ ap (map print_of) (take_more prints i print within) ∙ map-append print_of (take i prints) (get_or prints i print ∷ []) ∙ ap (λ p. map print_of (take i prints) ++ print_of p ∷ []) (sym is) in
     let whole = sym (take-append-drop (i + 1) (take n all)) in
     ap (flat_map print_text) whole ∙ flat_map-append print_text (take (i + 1) (take n all)) (drop (i + 1) (take n all))
     ∙ ap (λ xs. flat_map print_text xs ++ flat_map print_text (drop (i + 1) (take n all))) front

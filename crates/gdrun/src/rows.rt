@@ -10,6 +10,9 @@ const SCRIPT: &str = "func _init():\n\tprint(1 + 2)\n";
 
 const PRINTED: &str = "3\ndone steps 2 left 0\n";
 
+const THREE_LINES: &str =
+    "func _init():\n\tprint(\"a\", 2 - 3 - 4, \" \", 5 + 6 * 7)\n\tprint(7 * 7 * 73 * 127 * 337 * 92737 * 649657 + 1)\n\tprint(\"\")\n";
+
 const BAD_COMMAND: &str = "gdrun: bad command\n";
 
 const UNBUILT: &str = "refused res://m.gd: res://m.gd\nres://m.gd:0:0 Unbuilt\n";
@@ -91,6 +94,108 @@ fn scripts_run(rt: HostRuntime) -> Result<(), Fail> {
         spent,
         Status::StepsSpent,
     )?;
+    Ok(())
+}
+
+#[test]
+fn lines_run_in_order(rt: HostRuntime) -> Result<(), Fail> {
+    let files = [("res://m.gd", THREE_LINES)];
+    for (words, text, status) in [
+        (
+            "script . res://m.gd 1 1",
+            "spent res://m.gd:2 steps 1\n",
+            Status::StepsSpent,
+        ),
+        (
+            "script . res://m.gd 1 2",
+            "a-5 47\nspent res://m.gd:3 steps 2\n",
+            Status::StepsSpent,
+        ),
+        (
+            "script . res://m.gd 1 3",
+            "a-5 47\n-9223372036854775808\nspent res://m.gd:4 steps 3\n",
+            Status::StepsSpent,
+        ),
+        (
+            "script . res://m.gd 1 4",
+            "a-5 47\n-9223372036854775808\n\ndone steps 4 left 0\n",
+            Status::Done,
+        ),
+    ] {
+        expect(&rt, without_faults(words, &files), text, status)?;
+    }
+    Ok(())
+}
+
+#[test]
+fn places_of_what_is_not_taken(rt: HostRuntime) -> Result<(), Fail> {
+    for (script, place) in [
+        ("", "1:1"),
+        (" func _init():\n", "1:1"),
+        ("func _init():\r\n", "1:14"),
+        ("func _init():\n", "2:1"),
+        ("func _init():\n    print(1)\n", "2:1"),
+        ("func _init():\n\tprint(1.5)\n", "2:9"),
+        ("func _init():\n\tprint(\u{e9})\n", "2:8"),
+        ("func _init():\n\tprint(1 + 2)", "2:14"),
+        ("func _init():\n\tprint(1)\n\n", "3:1"),
+        ("func _init():\n\tprint(1)\n\tprint(\"a", "3:10"),
+    ] {
+        let mut text = String::from_str(rt.alloc(), "refused res://m.gd: res://m.gd\nres://m.gd:")?;
+        text.push_str(place)?;
+        text.push_str(" Unbuilt\n")?;
+        let files = [("res://m.gd", script)];
+        let row = without_faults("script . res://m.gd", &files);
+        expect(&rt, row, text.as_str(), Status::Refused)?;
+    }
+    Ok(())
+}
+
+/// So many scripts that are empty.
+fn empty_scripts(alloc: Global, count: u32) -> Result<Vec<(String, Vec<u8>)>, AllocError> {
+    let mut files = Vec::new(alloc);
+    for number in 0..count {
+        files.push((format!(in alloc; "res://s{number}.gd")?, Vec::new(alloc)))?;
+    }
+    Ok(files)
+}
+
+/// Compares what a script's run writes and answers over these files.
+fn expect_of_files(
+    rt: &(impl Abort + AllocGlobal),
+    files: Vec<(String, Vec<u8>)>,
+    text: &str,
+    status: Status,
+) -> Result<(), AllocError> {
+    let alloc = rt.alloc();
+    let words = words_of(alloc, "script . res://m.gd")?;
+    assert!(rt; MemoryFolder::can_hold(alloc, &files)?);
+    let mut folder = MemoryFolder::new(files, Vec::new(alloc));
+    let mut out = MemorySink::new(alloc, 1_000, Vec::new(alloc))?;
+    let answer = run_in_memory(alloc, &words, &mut folder, &mut out);
+    assert_eq!(rt; answer, status);
+    assert_eq!(rt; out.taken(), text.as_bytes());
+    Ok(())
+}
+
+#[test]
+fn limits_of_a_folder(rt: HostRuntime) -> Result<(), Fail> {
+    let alloc = rt.alloc();
+    expect_of_files(&rt, empty_scripts(alloc, 4_096)?, UNBUILT, Status::Refused)?;
+    let too_many = empty_scripts(alloc, 4_097)?;
+    expect_of_files(&rt, too_many, "folder limit\n", Status::FolderLimit)?;
+    for (length, text, status) in [
+        (
+            1_048_576,
+            "refused res://m.gd: res://m.gd\nres://m.gd:1:1 Unbuilt\n",
+            Status::Refused,
+        ),
+        (1_048_577, "folder limit\n", Status::FolderLimit),
+    ] {
+        let bytes = vec![in alloc; b'x'; length]?;
+        let path = String::from_str(alloc, "res://m.gd")?;
+        expect_of_files(&rt, vec![in alloc; (path, bytes)]?, text, status)?;
+    }
     Ok(())
 }
 
@@ -195,8 +300,13 @@ fn calls_that_fail(rt: HostRuntime) -> Result<(), Fail> {
 #[test]
 fn writes_that_fail(rt: HostRuntime) -> Result<(), Fail> {
     let words = "script . res://m.gd";
-    let script = [("res://m.gd", SCRIPT)];
-    for (failing, text) in [(0, ""), (1, "3\n")] {
+    let script = [("res://m.gd", THREE_LINES)];
+    for (failing, text) in [
+        (0, ""),
+        (1, "a-5 47\n"),
+        (2, "a-5 47\n-9223372036854775808\n"),
+        (3, "a-5 47\n-9223372036854775808\n\n"),
+    ] {
         let row = Row {
             failing_writes: &[failing],
             ..without_faults(words, &script)
