@@ -108,11 +108,11 @@ impl<'a> Parser<'a> {
     fn sign(&mut self) -> Result<Operator, Stop>
         ensures { (spot : Spot) (product : Product) → Goes result (past_space spot product) (λ operator. due (32 ∷ []) (past_operator spot product operator)) self.old.rest.now self.new.rest.now }
     {
-        if let [byte, rest @ ..] = self.rest {
-            if let Some(operator) = operator_of(*byte) {
-                self.rest = rest;
-                return Ok(operator);
-            }
+        if let [byte, rest @ ..] = self.rest
+            && let Some(operator) = operator_of(*byte)
+        {
+            self.rest = rest;
+            return Ok(operator);
         }
         Err(Stop::Refused)
     }
