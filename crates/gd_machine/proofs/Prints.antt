@@ -1,5 +1,5 @@
 -- Statements one after the other.
-use Rattle.std.proofs.Common.{◌≡◌, ℕ, ◌+◌, ◌-◌, ◌<◌, ◌≤◌, List, [], ◌∷◌, ◌++◌, map, take, drop, drop-cons, length, get_or, refl, sym, ap, ◌∙◌, add-one, arith, append_assoc, append-nil, suc, zero}
+use Rattle.std.proofs.Common.{◌≡◌, ℕ, ◌+◌, ◌-◌, ◌<◌, ◌≤◌, List, [], ◌∷◌, ◌++◌, map, take, drop, drop-cons, length, get_or, refl, sym, ap, ◌∙◌, arith, append_assoc, append-nil, suc, zero}
 use Rattle.std.specs.declared.option.Option.{Option}
 use Rattle.std.specs.List.{flat_map}
 use Rattle.std.specs.Io.KnownBytes.{append_known}
@@ -7,7 +7,6 @@ use Rattle.std.proofs.lemmas.List.{map-append, take_more, take-append-drop, take
 use Rattle.std.proofs.lemmas.List.Concat.{flat_map-append}
 use Rattle.host_io.specs.Sink.{TookFront}
 use Rattle.gd_syntax.specs.declared.first.FirstPrint.{FirstPrint}
-use Rattle.gd_syntax.specs.FirstTree.{Print}
 use Rattle.gd_syntax.specs.FirstScript.{print_of}
 use Rattle.gd_syntax.specs.FirstRun.{print_text, end_before, spent}
 use Rattle.host_io.proofs.Written.{took_then, took_more}

@@ -1,13 +1,13 @@
 -- The outcome line of a run, by the run that its script means.
-use Rattle.std.proofs.Common.{◌≡◌, ◌∙◌, ℕ, List, ap, refl, sym, Ok, Err, Result, IsTrue, subst, ◌++◌}
+use Rattle.std.proofs.Common.{ℕ, List, Result, IsTrue}
 use Rattle.std.specs.declared.option.Option.{Option}
-use Rattle.gd_syntax.specs.FirstRun.{Run, RunEnd, ended, spent, end_line}
+use Rattle.gd_syntax.specs.FirstRun.{Run}
 use Rattle.gd_machine.specs.declared.machine.Ending.{Ending}
 use Rattle.gd_machine.specs.declared.machine.Ending.TheVariants.{Ended, StepsSpent, SinkFault, NoMemory}
 use Rattle.gd_machine.specs.Ending.{HasRun, is_told, ending_text}
 use Rattle.gdrun.specs.declared.status.Status.{Status}
 use Rattle.gdrun.specs.declared.stop.Stop.{Stop}
-use Rattle.gdrun.specs.Outcome.{Outcome, outcome_of_run}
+use Rattle.gdrun.specs.Outcome.{outcome_of_run}
 use Rattle.gdrun.specs.Run.{HasWritten}
 use Rattle.gdrun.specs.Told.{status_of_ending}
 use Rattle.gdrun.proofs.Written.{written_then}

@@ -1,5 +1,5 @@
 -- Each text, file and reading has an outcome, and one only.
-use Rattle.std.proofs.Common.{◌≡◌, ◌∙◌, ℕ, List, refl, sym, ap, None, Some, Ok, Err, Result}
+use Rattle.std.proofs.Common.{◌≡◌, ◌∙◌, ℕ, List, refl, sym, ap, None, Some, Err, Result}
 use Rattle.std.specs.declared.option.Option.{Option}
 use Rattle.std.specs.FinMap.{find}
 use Rattle.host_io.specs.Paths.{path_order}

@@ -1,5 +1,5 @@
 -- What the status of an outcome tells, and the whole run from the inner answers.
-use Rattle.std.proofs.Common.{◌≡◌, ◌≢◌, ◌∙◌, ℕ, true, false, List, [], refl, sym, ap, subst, append-nil, None, Some, Ok, Err, Result, IsTrue}
+use Rattle.std.proofs.Common.{◌≡◌, ◌≢◌, ℕ, true, false, List, refl, subst, None, Some, Ok, Err, Result, IsTrue}
 use Rattle.std.specs.Prelude.{codes}
 use Rattle.std.specs.declared.option.Option.{Option}
 use Rattle.std.specs.FinMap.{find}
@@ -11,14 +11,14 @@ use Rattle.host_io.specs.declared.folder.Faults.{Faults}
 use Rattle.host_io.proofs.Written.{took_nothing, took_all}
 use Rattle.gd_syntax.specs.FirstGrammar.{FirstReading, taken, unbuilt}
 use Rattle.gd_syntax.specs.FirstRun.{RunEnd, ended, spent, run_of}
-use Rattle.project_run.specs.Image.{Reading, image_read, folder_fault, folder_limit, other_files, IsReadingOf, reading_of}
+use Rattle.project_run.specs.Image.{Reading, image_read, folder_fault, folder_limit, other_files, reading_of}
 use Rattle.project_run.proofs.Whole.{some_reading}
 use Rattle.gdrun.specs.declared.status.Status.{Status}
 use Rattle.gdrun.specs.declared.status.Status.TheVariants.{Done, Refused, Usage, StepsSpent, FolderFault, SinkFault, NoMemory, FolderLimit}
 use Rattle.gdrun.specs.declared.stop.Stop.{Stop}
 use Rattle.gdrun.specs.declared.stop.Stop.TheVariants.{NoMemory as StopMemory}
 use Rattle.gdrun.specs.Words.{Command, no_command, script_command, command_of, reads_folder, wanted_by}
-use Rattle.gdrun.specs.Outcome.{Outcome, one_line, status_of_end, outcome_of_script, IsOutcomeOfFile, IsOutcomeOfScript, IsOutcomeOfCommand, IsOutcome}
+use Rattle.gdrun.specs.Outcome.{Outcome, one_line, status_of_end, outcome_of_script, IsOutcomeOfFile, IsOutcomeOfCommand, IsOutcome}
 use Rattle.gdrun.specs.Run.{HasWritten, HasRun, IsRun, IsScriptRun}
 use Rattle.gdrun.proofs.Texts.{some_outcome, same_outcome}
 

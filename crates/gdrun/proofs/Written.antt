@@ -2,11 +2,9 @@
 use Rattle.std.proofs.Common.{◌≡◌, ℕ, List, ◌++◌, ◌∙◌, ap, Ok, Err, Result}
 use Rattle.std.specs.declared.option.Option.{Option}
 use Rattle.std.specs.Io.KnownBytes.{append_known}
-use Rattle.host_io.specs.Sink.{TookFront}
 use Rattle.host_io.proofs.Written.{append_twice, took_then}
 use Rattle.gdrun.specs.declared.status.Status.{Status}
 use Rattle.gdrun.specs.declared.stop.Stop.{Stop}
-use Rattle.gdrun.specs.Outcome.{Outcome}
 use Rattle.gdrun.specs.Run.{HasWritten}
 
 -- a first text was written, and then an inner answer to the rest

@@ -15,7 +15,7 @@ use Rattle.gd_syntax.specs.declared.fault.FaultKind.TheVariants.{Unreadable, Unb
 use Rattle.gd_syntax.specs.Faults.{kind_text}
 use Rattle.gd_syntax.specs.FirstGrammar.{FirstReading, taken, unbuilt, IsFirstReading}
 use Rattle.gd_syntax.specs.FirstRun.{Run, RunEnd, ended, spent, run_of, end_line}
-use Rattle.project_run.specs.Image.{Image, Reading, image_read, folder_fault, folder_limit, other_files}
+use Rattle.project_run.specs.Image.{Reading, image_read, folder_fault, folder_limit, other_files}
 use Rattle.gdrun.specs.declared.status.Status.{Status}
 use Rattle.gdrun.specs.declared.status.Status.TheVariants.{Done, Refused, Usage, StepsSpent, FolderFault, FolderLimit}
 use Rattle.gdrun.specs.Words.{Command, no_command, script_command, command_of}

@@ -1,4 +1,4 @@
-use Rattle.std.proofs.Common.{◌≡◌, refl, sym, ap, ◌∙◌, rules, None, Some}
+use Rattle.std.proofs.Common.{◌≡◌, refl, sym, None, Some}
 use Rattle.std.specs.FinMap.{find}
 use Rattle.host_io.specs.Paths.{path_order}
 use Rattle.project_run.specs.ImageType.{image_of}

@@ -1,10 +1,10 @@
-use Rattle.std.proofs.Common.{IsTrue, rules, sym, ◌≡◌, ◌∙◌, ap, arith}
+use Rattle.std.proofs.Common.{IsTrue, rules, ◌≡◌, ◌∙◌, ap}
 use Rattle.std.proofs.lemmas.Result.{err_from_is_err_and}
 use Rattle.host_io.proofs.Written.{took_nothing}
 use Rattle.gd_syntax.specs.FirstScript.{script_of}
 use Rattle.gd_syntax.specs.FirstRun.{run_of}
-use Rattle.gd_machine.specs.Ending.{HasRun, is_told}
-use Rattle.gd_machine.specs.Program.{path_in, script_in, program_in, steps_in}
+use Rattle.gd_machine.specs.Ending.{is_told}
+use Rattle.gd_machine.specs.Program.{path_in, script_in, program_in}
 use Rattle.gdrun.proofs.Endings.{finished}
 use Rattle.gdrun.proofs.run.run_script.Goals as goal
 

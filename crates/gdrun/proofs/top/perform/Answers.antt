@@ -1,6 +1,6 @@
-use Rattle.std.proofs.Common.{◌≡◌, rules}
+use Rattle.std.proofs.Common.{rules}
 use Rattle.std.proofs.lemmas.Result.{err_from_is_err_and}
-use Rattle.gdrun.specs.Words.{command_of, texts_of, no_command, script_command}
+use Rattle.gdrun.specs.Words.{texts_of}
 use Rattle.gdrun.proofs.Whole.{of_script_run, usage_run, some_run}
 use Rattle.gdrun.proofs.top.perform.Goals as goal
 

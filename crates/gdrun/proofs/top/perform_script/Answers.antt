@@ -1,7 +1,6 @@
-use Rattle.std.proofs.Common.{◌≡◌, Err, Some, refl, ap, ◌∙◌}
+use Rattle.std.proofs.Common.{◌≡◌, Err, refl, ap, ◌∙◌}
 use Rattle.project_run.specs.declared.image.ScriptImageError.TheVariants.{FolderLimit}
 use Rattle.project_run.specs.Image.{folder_limit}
-use Rattle.host_io.proofs.Written.{took_nothing}
 use Rattle.gdrun.proofs.Texts.{some_script_run}
 use Rattle.gdrun.proofs.top.perform_script.Goals as goal
 

@@ -1,6 +1,6 @@
-use Rattle.std.proofs.Common.{◌≡◌, subst, refl, ◌∙◌}
+use Rattle.std.proofs.Common.{◌≡◌, subst, refl}
 use Rattle.std.specs.Prelude.{IfOk}
-use Rattle.gdrun.specs.Words.{Command, command_of, texts_of}
+use Rattle.gdrun.specs.Words.{Command}
 use Rattle.gdrun.specs.ScriptCommand.{command_view}
 use Rattle.gdrun.proofs.WordLists.{few, many}
 use Rattle.gdrun.proofs.words.read_command.Goals as goal
