@@ -1,5 +1,5 @@
 -- What the status of an outcome tells, and the whole run from the inner answers.
-use Rattle.std.proofs.Common.{◌≡◌, ◌≢◌, ℕ, true, false, List, refl, subst, None, Some, Ok, Err, Result, IsTrue}
+use Rattle.std.proofs.Common.{arith, ◌+◌, ◌-◌, ◌^◌, ◌<◌, ◌≤◌, min, ◌≡◌, ◌≢◌, ℕ, true, false, List, refl, subst, None, Some, Ok, Err, Result, IsTrue}
 use Rattle.std.specs.Prelude.{codes}
 use Rattle.std.specs.declared.option.Option.{Option}
 use Rattle.std.specs.FinMap.{find}
@@ -19,14 +19,15 @@ use Rattle.gdrun.specs.declared.stop.Stop.{Stop}
 use Rattle.gdrun.specs.declared.stop.Stop.TheVariants.{NoMemory as StopMemory}
 use Rattle.gdrun.specs.Words.{Command, no_command, script_command, command_of, reads_folder, wanted_by}
 use Rattle.gdrun.specs.Outcome.{Outcome, one_line, status_of_end, outcome_of_script, IsOutcomeOfFile, IsOutcomeOfCommand, IsOutcome}
-use Rattle.gdrun.specs.Run.{HasWritten, HasRun, IsRun, IsScriptRun}
+use Rattle.gdrun.specs.Run.{HasWritten, HasRun, IsRun, IsScriptRun, HasFolderCause}
 use Rattle.gdrun.proofs.Texts.{some_outcome, same_outcome}
 
--- What a status tells: `Usage` that there is no command, a fault of the folder one of the reading; the last two are told
--- by no outcome.
+-- What a status tells: `Usage` that there is no command, a fault or a limit of the folder one of the reading; the last two
+-- are told by no outcome.
 abbrev pub Tells : Command → Reading → Status → Type 0
 Tells asked reading Usage = asked ≡ no_command
 Tells asked reading FolderFault = IsTrue (reads_folder asked) × (reading ≡ folder_fault)
+Tells asked reading FolderLimit = IsTrue (reads_folder asked) × (reading ≡ folder_limit)
 Tells asked reading SinkFault = ⊥
 Tells asked reading NoMemory = ⊥
 Tells asked reading status = Unit {0}
@@ -47,7 +48,7 @@ of_file asked reading path steps (Some (Some text)) outcome is = rw is.is (of_sc
 of_command : (asked : Command) (reading : Reading) (outcome : Outcome) → IsOutcomeOfCommand asked reading outcome → Tells asked reading outcome.status
 of_command no_command reading outcome is = rw is refl
 of_command (script_command path steps) folder_fault outcome is = rw is (refl, refl)
-of_command (script_command path steps) folder_limit outcome is = rw is tt
+of_command (script_command path steps) folder_limit outcome is = rw is (refl, refl)
 of_command (script_command path steps) other_files outcome is = rw is tt
 of_command (script_command path steps) (image_read image) outcome is = of_file (script_command path steps) (image_read image) path steps (find path_order path image) outcome is
 
@@ -121,10 +122,20 @@ module _ (words : List (List ℕ)) (files : Option Files) (calls : Option Calls)
   pub usage_cause : status ≡ Usage → command_of words ≡ no_command
   usage_cause is = rw is at told
 
-  pub folder_fault_cause : status ≡ FolderFault → RoseBy 1 before.deciding now.deciding
+  pub folder_fault_cause : status ≡ FolderFault → HasFolderCause folder_fault words files calls × RoseBy 1 before.deciding now.deciding
   folder_fault_cause is =
       let t : IsTrue (reads_folder (command_of words)) × (run.reading ≡ folder_fault) = rw is at told in
-      rw t.1 at (run.counted t.0 (λ e. cc))
+      (record { reads = t.0; read = rw t.1 at (run.read t.0) }, rw t.1 at (run.counted t.0 (λ e. cc)))
+
+  pub folder_limit_cause : status ≡ FolderLimit → HasFolderCause folder_limit words files calls
+  folder_limit_cause is =
+      let t : IsTrue (reads_folder (command_of words)) × (run.reading ≡ folder_limit) = rw is at told in
+      record { reads = t.0; read = rw t.1 at (run.read t.0) }
+
+  pub no_folder_fault : now.deciding ≡ before.deciding → before.deciding + 1 < 2 ^ 64 → status ≡ FolderFault → ⊥
+  no_folder_fault same below is =
+      let rose : min (before.deciding + 1) (2 ^ 64 - 1) ≤ now.deciding = (folder_fault_cause is).1 in
+      omega arith
 
   pub no_sink_fault : status ≡ SinkFault → ⊥
   no_sink_fault is = rw is at told
@@ -135,7 +146,13 @@ same_unread no_command one other outcome same is = is
 same_unread (script_command path steps) one other outcome same is = rw (same refl) is
 
 -- where files and calls are told, the outcome is that of the one reading
+pub of_told : (words : List (List ℕ)) (told_files : Option Files) (told_calls : Option Calls) (before now : Faults) (HasMemory : Type 0) (Wrote : Outcome → Type 0) → IsRun words told_files told_calls before now HasMemory Wrote → (files : Files) (calls : Calls) → told_files ≡ Some files → told_calls ≡ Some calls → (outcome : Outcome) → IsOutcome words (reading_of (wanted_by (command_of words)) files calls) outcome → Wrote outcome
+of_told words told_files told_calls before now HasMemory Wrote run files calls files_told calls_told outcome means =
+    let read = rw (files_told, calls_told) at run.read in
+    let other = same_unread (command_of words) run.reading (reading_of (wanted_by (command_of words)) files calls) outcome read means in
+    subst Wrote (same_outcome words run.reading run.outcome outcome run.means other) run.wrote
+
+-- the same for a folder in memory
 pub in_memory : (words : List (List ℕ)) (files : Files) (calls : Calls) (before now : Faults) (old new : Option (List ℕ)) (status : Status) → IsRun words (Some files) (Some calls) before now (status ≢ NoMemory) (λ outcome. HasRun old new outcome status) → (outcome : Outcome) → IsOutcome words (reading_of (wanted_by (command_of words)) files calls) outcome → HasRun old new outcome status
 in_memory words files calls before now old new status run outcome means =
-    let other = same_unread (command_of words) run.reading (reading_of (wanted_by (command_of words)) files calls) outcome run.read means in
-    subst (λ (o : Outcome). HasRun old new o status) (same_outcome words run.reading run.outcome outcome run.means other) run.wrote
+    of_told words (Some files) (Some calls) before now (status ≢ NoMemory) (λ (o : Outcome). HasRun old new o status) run files calls refl refl outcome means

@@ -60,3 +60,8 @@ pub record IsScriptRun (path : List ℕ) (steps : ℕ) (files : Option Files) (c
   pub outcome : Outcome
   pub means : IsOutcomeOfScript path steps reading outcome
   pub wrote : HasWritten old new outcome result
+
+-- The words read the folder, which allows this reading: where it tells its calls, it is their one reading.
+pub record HasFolderCause (reading : Reading) (words : List (List ℕ)) (files : Option Files) (calls : Option Calls) : Type 0 where
+  pub reads : IsTrue (reads_folder (command_of words))
+  pub read : IsReadingOf (wanted_by (command_of words)) files calls reading

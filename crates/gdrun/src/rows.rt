@@ -326,3 +326,37 @@ fn writes_that_fail(rt: HostRuntime) -> Result<(), Fail> {
     )?;
     Ok(())
 }
+
+/// The status of a script's run over one file, and what was written.
+fn run_one(alloc: Global, text: &str) -> Result<(Status, MemorySink), AllocError> {
+    let words = words_of(alloc, "script . res://m.gd")?;
+    let path = String::from_str(alloc, "res://m.gd")?;
+    let files = vec![in alloc; (path, text.as_bytes().to_vec(alloc)?)]?;
+    let mut out = MemorySink::new(alloc, 1_000, Vec::new(alloc))?;
+    if !MemoryFolder::can_hold(alloc, &files)? {
+        return Err(AllocError);
+    }
+    let mut folder = MemoryFolder::new(files, Vec::new(alloc));
+    let status = run_in_memory(alloc, &words, &mut folder, &mut out);
+    Ok((status, out))
+}
+
+/// Where an allocation fails, a run answers its row, or want of memory with a part of the front of its text.
+#[test]
+fn memory_may_run_out(rt: HostRuntime) {
+    let refused = "refused res://m.gd: res://m.gd\nres://m.gd:1:1 Unbuilt\n";
+    let printed = "a-5 47\n-9223372036854775808\n\ndone steps 4 left 0\n";
+    for (script, text, wanted) in [
+        ("", refused, Status::Refused),
+        (THREE_LINES, printed, Status::Done),
+    ] {
+        if let Ok((status, out)) = run_one(rt.alloc(), script) {
+            let front = &text.as_bytes()[..out.taken().len().min(text.len())];
+            assert_eq!(rt; out.taken(), front);
+            if status != Status::NoMemory {
+                assert_eq!(rt; status, wanted);
+                assert_eq!(rt; out.taken().len(), text.len());
+            }
+        }
+    }
+}

@@ -1,12 +1,13 @@
 // The top call: what the words ask for, over a folder and a sink that are handed in.
 ghost use Rattle.std.specs.Prelude.{◌≡◌, ◌≢◌, ◌+◌, ◌^◌, ◌<◌, ◌≤◌, IsErrOf, Err, false, Some, List, ℕ};
-ghost use Rattle.host_io.specs.Causes.{RoseBy};
+ghost use Rattle.host_io.specs.Causes.{Calls, RoseBy};
+ghost use Rattle.host_io.specs.Folder.{Files};
 ghost use Rattle.host_io.specs.MemoryFolder.{files_in, calls_of};
 ghost use Rattle.host_io.specs.MemorySink.{taken_by};
-ghost use Rattle.project_run.specs.Image.{Reading, reading_of};
+ghost use Rattle.project_run.specs.Image.{Reading, folder_fault, folder_limit, reading_of};
 ghost use Rattle.gdrun.specs.Words.{texts_of, command_of, no_command, reads_folder, wanted_by};
 ghost use Rattle.gdrun.specs.Outcome.{Outcome, IsOutcome};
-ghost use Rattle.gdrun.specs.Run.{IsScriptRun, HasWritten, HasRun, IsRun};
+ghost use Rattle.gdrun.specs.Run.{IsScriptRun, HasWritten, HasRun, IsRun, HasFolderCause};
 
 use crate::command::ScriptCommand;
 use crate::run::run_file;
@@ -77,14 +78,21 @@ pub fn gd_main_alone<F: Folder, S: Sink>(
     // The text and the status are those that the words and the reading of the folder mean.
     ensures headline { IsRun (texts_of words.now) (F.files folder.old) (F.calls folder.old) (F.faults folder.old) (F.faults folder.new) (result ≢ Status.NoMemory) (λ outcome. HasRun (S.taken out.old) (S.taken out.new) outcome result) }
 
+    // Where the folder tells its files and its calls by number, they are those of its one reading.
+    ensures told { (files : Files) (calls : Calls) → F.files folder.old ≡ Some files → F.calls folder.old ≡ Some calls
+        → (outcome : Outcome) → IsOutcome (texts_of words.now) (reading_of (wanted_by (command_of (texts_of words.now))) files calls) outcome
+        → HasRun (S.taken out.old) (S.taken out.new) outcome result }
+
     // The causes.
     ensures usage { result ≡ Status.Usage → command_of (texts_of words.now) ≡ no_command }
-    ensures folder_fault { result ≡ Status.FolderFault → RoseBy 1 (F.faults folder.old).deciding (F.faults folder.new).deciding }
+    ensures folder_fault { result ≡ Status.FolderFault → HasFolderCause folder_fault (texts_of words.now) (F.files folder.old) (F.calls folder.old) × RoseBy 1 (F.faults folder.old).deciding (F.faults folder.new).deciding }
+    ensures folder_limit { result ≡ Status.FolderLimit → HasFolderCause folder_limit (texts_of words.now) (F.files folder.old) (F.calls folder.old) }
     ensures sink_fault { result ≡ Status.SinkFault → RoseBy 1 (S.faults out.old) (S.faults out.new) }
     ensures sink_kept { (result ≢ Status.SinkFault) → S.faults out.new ≡ S.faults out.old }
 
-    // Where no write failed, it answers the status that is meant, or want of memory.
-    ensures complete { S.faults out.new ≡ S.faults out.old → S.faults out.old + 1 < 2 ^ 64 → result ≢ Status.SinkFault }
+    // Where no call and no write failed, the answer is the status that is meant, or want of memory.
+    ensures complete_folder { (F.faults folder.new).deciding ≡ (F.faults folder.old).deciding → (F.faults folder.old).deciding + 1 < 2 ^ 64 → result ≢ Status.FolderFault }
+    ensures complete_sink { S.faults out.new ≡ S.faults out.old → S.faults out.old + 1 < 2 ^ 64 → result ≢ Status.SinkFault }
 
     // Words that are no command are refused before anything is read.
     ensures unread { reads_folder (command_of (texts_of words.now)) ≡ false → folder.new ≡ folder.old }
