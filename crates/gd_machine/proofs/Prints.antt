@@ -1,5 +1,5 @@
 -- Statements one after the other.
-use Rattle.std.proofs.Common.{◌≡◌, ℕ, ◌+◌, ◌-◌, ◌<◌, ◌≤◌, List, [], ◌∷◌, ◌++◌, map, take, drop, drop-cons, length, get_or, refl, sym, ap, ◌∙◌, add-one, arith, append_assoc, append-nil, suc, zero}
+use Rattle.std.proofs.Common.{◌≡◌, ℕ, ◌+◌, ◌-◌, ◌<◌, ◌≤◌, List, [], ◌∷◌, ◌++◌, map, take, drop, drop-cons, length, get_or, refl, sym, ap, ◌∙◌, arith, append_assoc, append-nil, suc, zero}
 use Rattle.std.specs.declared.option.Option.{Option}
 use Rattle.std.specs.List.{flat_map}
 use Rattle.std.specs.Io.KnownBytes.{append_known}
@@ -7,7 +7,6 @@ use Rattle.std.proofs.lemmas.List.{map-append, take_more, take-append-drop, take
 use Rattle.std.proofs.lemmas.List.Concat.{flat_map-append}
 use Rattle.host_io.specs.Sink.{TookFront}
 use Rattle.gd_syntax.specs.declared.first.FirstPrint.{FirstPrint}
-use Rattle.gd_syntax.specs.FirstTree.{Print}
 use Rattle.gd_syntax.specs.FirstScript.{print_of}
 use Rattle.gd_syntax.specs.FirstRun.{print_text, end_before, spent}
 use Rattle.host_io.proofs.Written.{took_then, took_more}
@@ -35,7 +34,7 @@ parts : (prints : List FirstPrint) (i n : ℕ) (print : FirstPrint) → i < leng
 parts prints i n print within more is =
     let all = map print_of prints in
     let front : take (i + 1) (take n all) ≡ map print_of (take i prints) ++ print_of print ∷ [] =
-        take-take (i + 1) n all more ∙ take-map print_of (i + 1) prints ∙ ap (map print_of) (take_more prints i print within) ∙ map-append print_of (take i prints) (get_or prints i print ∷ []) ∙ ap (λ p. map print_of (take i prints) ++ print_of p ∷ []) (sym is) in
+    take-take (i + 1) n all more ∙ take-map print_of (i + 1) prints ∙ ap (map print_of) (take_more prints i print within) ∙ map-append print_of (take i prints) (get_or prints i print ∷ []) ∙ ap (λ p. map print_of (take i prints) ++ print_of p ∷ []) (sym is) in
     let whole = sym (take-append-drop (i + 1) (take n all)) in
     ap (flat_map print_text) whole ∙ flat_map-append print_text (take (i + 1) (take n all)) (drop (i + 1) (take n all))
     ∙ ap (λ xs. flat_map print_text xs ++ flat_map print_text (drop (i + 1) (take n all))) front

@@ -3,6 +3,8 @@
 
 mod machine;
 mod report;
+#[cfg(test)]
+mod tests;
 mod values;
 
 pub use machine::{CodePlace, Ending, Machine, Program};

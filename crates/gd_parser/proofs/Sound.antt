@@ -1,174 +1,184 @@
--- What is accepted is a file that is taken.
-use Rattle.std.proofs.Common.{◌≡◌, ℕ, ◌+◌, ◌*◌, ◌≤◌, ℤ, pos, Bool, true, false, nat_lt, ◌==◌, ◌⊎◌, inl, inr, Option, Some, None, List, [], ◌∷◌, ◌++◌, length, length-append, codes, refl, sym, ap, subst, ◌∙◌, arith, append_assoc, lit≤, IsTrue}
+-- What is accepted is a file of the grammar.
+use Rattle.std.proofs.Common.{◌≡◌, ℕ, ◌+◌, ◌*◌, ◌<◌, pos, Bool, true, false, nat_lt, ◌==◌, ◌⊎◌, inl, inr, Option, Some, None, List, [], ◌∷◌, ◌++◌, length, codes, refl, sym, ap, subst, ◌∙◌, arith, append_assoc, IsTrue}
 use Rattle.std.specs.Prelude.{if◌then◌else◌, ◌&&◌}
 use Rattle.std.specs.Char.{is_ascii_digit, digit_value}
 use Rattle.std.specs.List.{list_all}
-use Rattle.std.specs.Str.Parse.{digits_value}
 use Rattle.std.proofs.lemmas.List.{append-nil}
-use Rattle.std.proofs.lemmas.Int.Digits.{digits_value_push}
 use Rattle.std.proofs.lemmas.Bool.Decides.{nat_tests}
-use Rattle.gd_syntax.specs.declared.first.SumOp.TheVariants.{Add}
-use Rattle.gd_syntax.specs.FirstTree.{Item, sum_item, Script}
-use Rattle.gd_syntax.specs.FirstGrammar.{MAX_DIGITS, IsInt, IsProduct, IsTerms, IsSum, IsItem, IsItems, IsPrint, IsFile, IsTaken, one_sum}
-use Rattle.gd_parser.specs.States.{State, due, number, counted, ended, after_number, step, script_at, at_end, run, start, Outcome, Accepts, Stops}
-use Rattle.gd_parser.proofs.Runs.{and_both}
-
--- what was read before a number
-abbrev Before : Option ℤ → List ℕ → Type 0
-Before None text = text ≡ codes "func _init():\n\tprint("
-Before (Some a) text = (digits : List ℕ) × (text ≡ codes "func _init():\n\tprint(" ++ (digits ++ codes " + ")) × IsInt a digits
-
--- the digits of a number so far
-pub record AreDigits (value count : ℕ) (digits : List ℕ) : Type 0 where
-  pub all : IsTrue (list_all is_ascii_digit digits)
-  pub counted : length digits ≡ count
-  pub few : count ≤ MAX_DIGITS
-  pub is : value ≡ digits_value 10 digits
+use Rattle.gd_syntax.specs.declared.first.SumOp.TheVariants.{Add, Sub}
+use Rattle.gd_syntax.specs.FirstTree.{Product, text_item, Script}
+use Rattle.gd_syntax.specs.FirstGrammar.{MAX_DIGITS, MAX_OPERATORS, MAX_ITEMS, IsStr, IsFile, operators, is_plain}
+use Rattle.gd_parser.specs.declared.sums.Operator.{Operator}
+use Rattle.gd_parser.specs.declared.sums.Operator.TheVariants.{Times, Term}
+use Rattle.gd_parser.specs.States.{Line, Spot, State, due, at_line, at_item, in_text, past_item, in_number, past_number, past_space, step, script_at, some_lines, at_end, run, start, Outcome, Accepts, Stops}
+use Rattle.gd_parser.specs.States.{new_line, new_spot, with_item, with_line, with_sum, added, multiplied, operator_of, operator_step, past_operator, past_number_step, past_item_step, line_step, text_step, number_step}
+use Rattle.gd_parser.proofs.Runs.{code_is, and_both}
+use Rattle.gd_parser.proofs.Complete.{operator_text}
+use Rattle.gd_parser.proofs.Spelled.{AreDigits, no_digits, all_push, digits_push, int_of, Lines, ItemDue, ItemEnds, NumberDue, NumberEnds, item_added, comma_added, line_added, line_begun, number_added, sum_added, item_begun, operator_added}
 
 -- the text that was read so far
-abbrev Spelled : State → List ℕ → Type 0
+abbrev pub Spelled : State → List ℕ → Type 0
 Spelled (due word state) text = Spelled state (text ++ word)
-Spelled (number before value count) text = (front : List ℕ) × (digits : List ℕ) × (text ≡ front ++ digits) × Before before front × AreDigits value count digits
-Spelled (counted before value) text = (front : List ℕ) × (digits : List ℕ) × (text ≡ front ++ digits) × Before before front × IsInt value digits
-Spelled (ended a b) text = (front : List ℕ) × (digits : List ℕ) × (text ≡ front ++ (digits ++ codes ")\n")) × Before (Some a) front × IsInt b digits
+Spelled (at_line before) text = Lines before text
+Spelled (at_item line) text = ItemDue line text
+Spelled (in_text line content) text = (front : List ℕ) × (text ≡ front ++ (codes "\"" ++ content)) × ItemDue line front × IsTrue (list_all is_plain content)
+Spelled (past_item line) text = ItemEnds line text
+Spelled (in_number spot product value count) text = (front : List ℕ) × (digits : List ℕ) × (text ≡ front ++ digits) × NumberDue spot product front × AreDigits value count digits
+Spelled (past_number spot product) text = NumberEnds spot product text
+Spelled (past_space spot product) text = (front : List ℕ) × (text ≡ front ++ codes " ") × NumberEnds spot product front × (operators (added spot.before product) < MAX_OPERATORS)
+
+-- ---- tests
+
+some_is : (x y : State) → Some x ≡ Some y → x ≡ y
+some_is x y e = cc
 
 if_some : (b : Bool) (x y : State) → (if b then Some x else None) ≡ Some y → (b ≡ true) × (x ≡ y)
-if_some true x y e = (refl, cc)
+if_some true x y e = (refl, some_is x y e)
 if_some false x y e = absurd (cc)
 
 if_either : (b : Bool) (x y : State) (o : Option State) → (if b then Some x else o) ≡ Some y → ((b ≡ true) × (x ≡ y)) ⊎ (o ≡ Some y)
-if_either true x y o e = inl (refl, cc)
+if_either true x y o e = inl (refl, some_is x y e)
 if_either false x y o e = inr e
 
 if_none : (b : Bool) (o : Option State) (y : State) → (if b then None else o) ≡ Some y → (b ≡ false) × (o ≡ Some y)
 if_none true o y e = absurd (cc)
 if_none false o y e = (refl, e)
 
-code_is : (c d : ℕ) → (c == d) ≡ true → c ≡ d
-code_is c d e = grind (arith, nat_tests)
+if_one : (b : Bool) (o p : Option State) (y : State) → (if b then o else p) ≡ Some y → ((b ≡ true) × (o ≡ Some y)) ⊎ ((b ≡ false) × (p ≡ Some y))
+if_one true o p y e = inl (refl, e)
+if_one false o p y e = inr (refl, e)
 
-no_digits : AreDigits 0 0 []
-no_digits = record { all = refl; counted = refl; few = lit≤ tt; is = refl }
+op_some : (b : Bool) (x y : Operator) → (if b then Some x else None) ≡ Some y → (b ≡ true) × (x ≡ y)
+op_some true x y e = (refl, cc)
+op_some false x y e = absurd (cc)
 
-all_push : (digits : List ℕ) (c : ℕ) → IsTrue (list_all is_ascii_digit digits) → is_ascii_digit c ≡ true → IsTrue (list_all is_ascii_digit (digits ++ c ∷ []))
-all_push [] c all one = rw one refl
-all_push (d ∷ digits) c all one =
-    let both = and_both (is_ascii_digit d) (list_all is_ascii_digit digits) all in
-    rw both.0 (all_push digits c both.1 one)
+op_one : (b : Bool) (x y : Operator) (o : Option Operator) → (if b then Some x else o) ≡ Some y → ((b ≡ true) × (x ≡ y)) ⊎ (o ≡ Some y)
+op_one true x y o e = inl (refl, cc)
+op_one false x y o e = inr e
 
-digits_push : (value count c : ℕ) (digits : List ℕ) → is_ascii_digit c ≡ true → nat_lt count MAX_DIGITS ≡ true → AreDigits value count digits
-    → AreDigits (value * 10 + digit_value c) (count + 1) (digits ++ c ∷ [])
-digits_push value count c digits one room d = record {
-  all = all_push digits c d.all one;
-  counted = omega (arith, length-append digits (c ∷ []), d.counted);
-  few = grind (arith, nat_tests);
-  is = ap (λ v. v * 10 + digit_value c) d.is ∙ sym (digits_value_push 10 digits c);
-}
+few_of : (n most : ℕ) → nat_lt n most ≡ true → n < most
+few_of n most e = grind (arith, nat_tests)
 
-int_of : (value count : ℕ) (digits : List ℕ) → (count == 0) ≡ false → AreDigits value count digits → IsInt (pos value) digits
-int_of value count digits some d = record {
-  some = let n : length digits ≡ count = d.counted in grind (arith, nat_tests);
-  few = omega (arith, d.counted, d.few);
-  digits = d.all;
-  is = ap pos d.is;
-}
+-- ---- one character
 
-after_spelled : (before : Option ℤ) (value : ℤ) (c : ℕ) (next : State) (front digits : List ℕ) → after_number before value c ≡ Some next → Before before front → IsInt value digits
-    → Spelled next ((front ++ digits) ++ c ∷ [])
-after_spelled None value c next front digits e b int =
-    let t = if_some (c == 32) (due (codes "+ ") (number (Some value) 0 0)) next e in
-    let is : c ≡ 32 = code_is c 32 t.0 in
-    let whole : ((front ++ digits) ++ c ∷ []) ++ codes "+ " ≡ codes "func _init():\n\tprint(" ++ (digits ++ codes " + ") = rw (b, is) (ap (λ t. codes "func _init():\n\tprint(" ++ t) (append_assoc digits (32 ∷ []) (codes "+ "))) in
-    subst (λ n. Spelled n ((front ++ digits) ++ c ∷ [])) t.1
-    (((front ++ digits) ++ c ∷ []) ++ codes "+ ", [], sym (append-nil (((front ++ digits) ++ c ∷ []) ++ codes "+ ")), (digits, whole, int), no_digits)
-after_spelled (Some a) value c next front digits e b int =
-    let t = if_some (c == 41) (due (codes "\n") (ended a value)) next e in
-    let is : c ≡ 41 = code_is c 41 t.0 in
-    let whole : ((front ++ digits) ++ c ∷ []) ++ codes "\n" ≡ front ++ (digits ++ codes ")\n") = rw is (simp append_assoc) in
-    subst (λ n. Spelled n ((front ++ digits) ++ c ∷ [])) t.1 (front, digits, whole, b, int)
-
-spelled_step : (state next : State) (c : ℕ) (text : List ℕ) → step state c ≡ Some next → Spelled state text → Spelled next (text ++ c ∷ [])
-spelled_step (due [] state) next c text e s = spelled_step state next c text e (subst (Spelled state) (append-nil text) s)
-spelled_step (due (d ∷ word) state) next c text e s =
+word_spelled : (d : ℕ) (word : List ℕ) (state next : State) (c : ℕ) (text : List ℕ) → step (due (d ∷ word) state) c ≡ Some next → Spelled state (text ++ d ∷ word) → Spelled next (text ++ c ∷ [])
+word_spelled d word state next c text e s =
     let t = if_some (c == d) (due word state) next e in
     subst (λ n. Spelled n (text ++ c ∷ [])) t.1
     (subst (Spelled state) (sym (append_assoc text (c ∷ []) word)) (subst (λ x. Spelled state (text ++ x ∷ word)) (sym (code_is c d t.0)) s))
-spelled_step (number before value count) next c text e s =
-    let more = number before (value * 10 + digit_value c) (count + 1) in
-    subst (λ t. Spelled next (t ++ c ∷ [])) (sym s.2)
-    (elim (if_either (is_ascii_digit c && nat_lt count MAX_DIGITS) more next (if count == 0 then None else after_number before (pos value) c) e) [
-      | inl t ↦ subst (λ n. Spelled n ((s.0 ++ s.1) ++ c ∷ [])) t.1
-          (let both = and_both (is_ascii_digit c) (nat_lt count MAX_DIGITS) t.0 in
-          (s.0, s.1 ++ c ∷ [], append_assoc s.0 s.1 (c ∷ []), s.3, digits_push value count c s.1 both.0 both.1 s.4))
-      | inr t ↦ let some = if_none (count == 0) (after_number before (pos value) c) next t in
-          after_spelled before (pos value) c next s.0 s.1 some.1 s.3 (int_of value count s.1 some.0 s.4)
-    ])
-spelled_step (counted before value) next c text e s = subst (λ t. Spelled next (t ++ c ∷ [])) (sym s.2) (after_spelled before value c next s.0 s.1 e s.3 s.4)
-spelled_step (ended a b) next c text e s = absurd (cc)
 
-product_spelled : (value : ℤ) (digits : List ℕ) → IsInt value digits → IsProduct (record { first = value; others = [] }) digits
-product_spelled value digits int = record { front = digits; rest = []; is = sym (append-nil digits); first = int; second = refl }
+line_spelled : (before : Script) (next : State) (c : ℕ) (text : List ℕ) → line_step before c ≡ Some next → Lines before text → Spelled next (text ++ c ∷ [])
+line_spelled before next c text e s =
+    let t = if_some (c == 9) (due (codes "print(") (at_item (new_line before))) next e in
+    let is : text ++ codes "\tprint(" ≡ (text ++ c ∷ []) ++ codes "print(" = rw (code_is c 9 t.0) (sym (append_assoc text (9 ∷ []) (codes "print("))) in
+    subst (λ n. Spelled n (text ++ c ∷ [])) t.1 (subst (ItemDue (new_line before)) is (line_begun before text s))
 
-terms_spelled : (b : ℤ) (y : List ℕ) → IsInt b y → IsTerms ((Add, record { first = b; others = [] }) ∷ []) (codes " + " ++ y)
-terms_spelled b y right = record {
-  front = codes " + ";
-  rest = y;
-  is = refl;
-  first = refl;
-  second = record { front = y; rest = []; is = sym (append-nil y); first = product_spelled b y right; second = refl };
-}
+string_of : (content : List ℕ) (c : ℕ) → IsTrue (list_all is_plain content) → c ≡ 34 → IsStr content ((codes "\"" ++ content) ++ c ∷ [])
+string_of content c plain is = record { plain = plain; is = ap (λ x. (codes "\"" ++ content) ++ x ∷ []) is }
 
-sum_spelled : (a b : ℤ) (x y : List ℕ) → IsInt a x → IsInt b y
-    → IsSum (record { first = record { first = a; others = [] }; others = (Add, record { first = b; others = [] }) ∷ [] }) (x ++ (codes " + " ++ y))
-sum_spelled a b x y left right = record {
-  few = lit≤ tt;
-  spelled = record { front = x; rest = codes " + " ++ y; is = refl; first = product_spelled a x left; second = terms_spelled b y right };
-}
+text_spelled : (line : Line) (content : List ℕ) (next : State) (c : ℕ) (text : List ℕ) → text_step line content c ≡ Some next → Spelled (in_text line content) text → Spelled next (text ++ c ∷ [])
+text_spelled line content next c text e s =
+    elim (if_either (c == 34) (past_item (with_item line (text_item content))) next (if is_plain c then Some (in_text line (content ++ c ∷ [])) else None) e) [
+      | inl t ↦
+          let i = item_added line s.0 (text_item content) ((codes "\"" ++ content) ++ c ∷ []) s.2 (string_of content c s.3 (code_is c 34 t.0)) in
+          let is : s.0 ++ ((codes "\"" ++ content) ++ c ∷ []) ≡ text ++ c ∷ [] = sym (append_assoc s.0 (codes "\"" ++ content) (c ∷ [])) ∙ ap (λ x. x ++ c ∷ []) (sym s.1) in
+          subst (λ n. Spelled n (text ++ c ∷ [])) t.1 (subst (ItemEnds (with_item line (text_item content))) is i)
+      | inr o ↦
+          let t = if_some (is_plain c) (in_text line (content ++ c ∷ [])) next o in
+          let is : text ++ c ∷ [] ≡ s.0 ++ (codes "\"" ++ (content ++ c ∷ [])) = ap (λ x. x ++ c ∷ []) s.1 ∙ append_assoc s.0 (codes "\"" ++ content) (c ∷ []) in
+          subst (λ n. Spelled n (text ++ c ∷ [])) t.1 (s.0, is, s.2, all_push is_plain content c s.3 t.0)
+    ]
 
-items_spelled : (item : Item) (text : List ℕ) → IsItem item text → IsItems (item ∷ []) text
-items_spelled item text i = record { front = text; rest = []; is = sym (append-nil text); first = i; second = refl }
+item_spelled : (line : Line) (next : State) (c : ℕ) (text : List ℕ) → past_item_step line c ≡ Some next → ItemEnds line text → Spelled next (text ++ c ∷ [])
+item_spelled line next c text e s =
+    elim (if_one (c == 44) (if nat_lt (length line.items) MAX_ITEMS then Some (due (codes " ") (at_item line)) else None) (if c == 41 then Some (due (codes "\n") (at_line (with_line line))) else None) next e) [
+      | inl o ↦
+          let t = if_some (nat_lt (length line.items) MAX_ITEMS) (due (codes " ") (at_item line)) next o.1 in
+          let is : text ++ codes ", " ≡ (text ++ c ∷ []) ++ codes " " = rw (code_is c 44 o.0) (sym (append_assoc text (44 ∷ []) (codes " "))) in
+          subst (λ n. Spelled n (text ++ c ∷ [])) t.1 (subst (ItemDue line) is (comma_added line text s (few_of (length line.items) MAX_ITEMS t.0)))
+      | inr o ↦
+          let t = if_some (c == 41) (due (codes "\n") (at_line (with_line line))) next o.1 in
+          let is : text ++ codes ")\n" ≡ (text ++ c ∷ []) ++ codes "\n" = rw (code_is c 41 t.0) (sym (append_assoc text (41 ∷ []) (codes "\n"))) in
+          subst (λ n. Spelled n (text ++ c ∷ [])) t.1 (subst (Lines (with_line line)) is (line_added line text s))
+    ]
 
-print_spelled : (item : Item) (text : List ℕ) → IsItem item text → IsPrint 2 (record { line = 2; items = item ∷ [] }) (codes "\tprint(" ++ (text ++ codes ")\n"))
-print_spelled item text i = record {
-  at = refl;
-  few = lit≤ tt;
-  spelled = record {
-    front = codes "\tprint(";
-    rest = text ++ codes ")\n";
-    is = refl;
-    first = refl;
-    second = record { front = text; rest = codes ")\n"; is = refl; first = items_spelled item text i; second = refl };
-  };
-}
+number_spelled : (spot : Spot) (product : Product) (next : State) (c : ℕ) (text : List ℕ) → past_number_step spot product c ≡ Some next → NumberEnds spot product text → Spelled next (text ++ c ∷ [])
+number_spelled spot product next c text e s =
+    elim (if_one (c == 32) (if nat_lt (operators (added spot.before product)) MAX_OPERATORS then Some (past_space spot product) else None) (past_item_step (with_sum spot product) c) next e) [
+      | inl o ↦
+          let t = if_some (nat_lt (operators (added spot.before product)) MAX_OPERATORS) (past_space spot product) next o.1 in
+          subst (λ n. Spelled n (text ++ c ∷ [])) t.1 (text, ap (λ x. text ++ x ∷ []) (code_is c 32 o.0), s, few_of (operators (added spot.before product)) MAX_OPERATORS t.0)
+      | inr o ↦ item_spelled (with_sum spot product) next c text o.1 (sum_added spot product text s)
+    ]
 
-file_spelled : (a b : ℤ) (x y text : List ℕ) → text ≡ codes "func _init():\n\tprint(" ++ ((x ++ (codes " + " ++ y)) ++ codes ")\n") → IsInt a x → IsInt b y → IsFile (one_sum a b) text
-file_spelled a b x y text is left right =
-    let rest : List ℕ = codes "\tprint(" ++ ((x ++ (codes " + " ++ y)) ++ codes ")\n") in
-    record {
-      some = lit≤ tt;
-      spelled = record {
-        front = codes "func _init():\n";
-        rest = rest;
-        is = is;
-        first = refl;
-        second = record {
-          front = rest;
-          rest = [];
-          is = sym (append-nil rest);
-          first = print_spelled (sum_item (record { first = record { first = a; others = [] }; others = (Add, record { first = b; others = [] }) ∷ [] })) (x ++ (codes " + " ++ y)) (sum_spelled a b x y left right);
-          second = refl;
-        };
-      };
-    }
+digit_spelled : (spot : Spot) (product : Option Product) (value count : ℕ) (next : State) (c : ℕ) (front digits : List ℕ) → number_step spot product value count c ≡ Some next
+    → NumberDue spot product front → AreDigits value count digits → Spelled next ((front ++ digits) ++ c ∷ [])
+digit_spelled spot product value count next c front digits e n d =
+    let more = in_number spot product (value * 10 + digit_value c) (count + 1) in
+    elim (if_either (is_ascii_digit c && nat_lt count MAX_DIGITS) more next (if count == 0 then None else past_number_step spot (multiplied product (pos value)) c) e) [
+      | inl t ↦
+          let both = and_both (is_ascii_digit c) (nat_lt count MAX_DIGITS) t.0 in
+          subst (λ n. Spelled n ((front ++ digits) ++ c ∷ [])) t.1 (front, digits ++ c ∷ [], append_assoc front digits (c ∷ []), n, digits_push value count c digits both.0 both.1 d)
+      | inr o ↦
+          let some = if_none (count == 0) (past_number_step spot (multiplied product (pos value)) c) next o in
+          number_spelled spot (multiplied product (pos value)) next c (front ++ digits) some.1 (number_added spot product front (pos value) digits n (int_of value count digits some.0 d))
+    ]
 
-spelled_end : (state : State) (script : Script) (text : List ℕ) → script_at state ≡ Some script → Spelled state text → IsTaken script text
+operator_texts : (operator : Operator) (c : ℕ) → operator_of c ≡ Some operator → operator_text operator ≡ codes " " ++ (c ∷ codes " ")
+operator_texts operator c e =
+    elim (op_one (c == 42) Times operator (if c == 43 then Some (Term Add) else if c == 45 then Some (Term Sub) else None) e) [
+      | inl t ↦ rw (sym t.1, code_is c 42 t.0) refl
+      | inr o ↦ elim (op_one (c == 43) (Term Add) operator (if c == 45 then Some (Term Sub) else None) o) [
+        | inl t ↦ rw (sym t.1, code_is c 43 t.0) refl
+        | inr p ↦ let t = op_some (c == 45) (Term Sub) operator p in rw (sym t.1, code_is c 45 t.0) refl
+      ]
+    ]
+
+operator_spelled : (spot : Spot) (product : Product) (o : Option Operator) (next : State) (c : ℕ) (text : List ℕ) → operator_of c ≡ o → operator_step spot product o ≡ Some next
+    → Spelled (past_space spot product) text → Spelled next (text ++ c ∷ [])
+operator_spelled spot product None next c text is e s = absurd (cc)
+operator_spelled spot product (Some operator) next c text is e s =
+    let state = past_operator spot product operator in
+    let t = some_is (due (codes " ") state) next e in
+    let n = operator_added spot product operator s.0 s.2 s.3 in
+    let same : s.0 ++ operator_text operator ≡ (text ++ c ∷ []) ++ codes " " =
+    ap (λ x. s.0 ++ x) (operator_texts operator c is) ∙ sym (append_assoc s.0 (codes " ") (c ∷ codes " ")) ∙ ap (λ x. x ++ (c ∷ codes " ")) (sym s.1) ∙ sym (append_assoc text (c ∷ []) (codes " ")) in
+    subst (λ n. Spelled n (text ++ c ∷ [])) t (s.0 ++ operator_text operator, [], sym same ∙ sym (append-nil (s.0 ++ operator_text operator)), n, no_digits)
+
+spelled_step : (state next : State) (c : ℕ) (text : List ℕ) → step state c ≡ Some next → Spelled state text → Spelled next (text ++ c ∷ [])
+spelled_step (due [] state) next c text e s = spelled_step state next c text e (subst (Spelled state) (append-nil text) s)
+spelled_step (due (d ∷ word) state) next c text e s = word_spelled d word state next c text e s
+spelled_step (at_line before) next c text e s = line_spelled before next c text e s
+spelled_step (at_item line) next c text e s =
+    elim (if_either (c == 34) (in_text line []) next (number_step (new_spot line) None 0 0 c) e) [
+      | inl t ↦ subst (λ n. Spelled n (text ++ c ∷ [])) t.1 (text, ap (λ x. text ++ x ∷ []) (code_is c 34 t.0), s, refl)
+      | inr o ↦ subst (λ x. Spelled next (x ++ c ∷ [])) (append-nil text) (digit_spelled (new_spot line) None 0 0 next c text [] o (item_begun line text s) no_digits)
+    ]
+spelled_step (in_text line content) next c text e s = text_spelled line content next c text e s
+spelled_step (past_item line) next c text e s = item_spelled line next c text e s
+spelled_step (in_number spot product value count) next c text e s =
+    subst (λ x. Spelled next (x ++ c ∷ [])) (sym s.2) (digit_spelled spot product value count next c s.0 s.1 e s.3 s.4)
+spelled_step (past_number spot product) next c text e s = number_spelled spot product next c text e s
+spelled_step (past_space spot product) next c text e s = operator_spelled spot product (operator_of c) next c text refl e s
+
+-- ---- the end
+
+file_of : (before script : Script) (text : List ℕ) → some_lines before ≡ Some script → Lines before text → IsFile script text
+file_of [] script text e s = absurd (cc)
+file_of (print ∷ prints) script text e s =
+    let is : print ∷ prints ≡ script = cc in
+    subst (λ x. IsFile x text) is (record { some = omega arith; spelled = s })
+
+spelled_end : (state : State) (script : Script) (text : List ℕ) → script_at state ≡ Some script → Spelled state text → IsFile script text
 spelled_end (due [] state) script text e s = spelled_end state script text e (subst (Spelled state) (append-nil text) s)
 spelled_end (due (d ∷ word) state) script text e s = absurd (cc)
-spelled_end (number before value count) script text e s = absurd (cc)
-spelled_end (counted before value) script text e s = absurd (cc)
-spelled_end (ended a b) script text e s =
-    let is : script ≡ one_sum a b = cc in
-    record { first = a; second = b; is = is; spelled = subst (λ t. IsFile t text) (sym is) (file_spelled a b s.3.0 s.1 text (rw (s.2, s.3.1) (simp append_assoc)) s.3.2 s.4) }
+spelled_end (at_line before) script text e s = file_of before script text e s
+spelled_end (at_item line) script text e s = absurd (cc)
+spelled_end (in_text line content) script text e s = absurd (cc)
+spelled_end (past_item line) script text e s = absurd (cc)
+spelled_end (in_number spot product value count) script text e s = absurd (cc)
+spelled_end (past_number spot product) script text e s = absurd (cc)
+spelled_end (past_space spot product) script text e s = absurd (cc)
 
 end_some : (o : Option Script) (script : Script) → at_end o ≡ Accepts script → o ≡ Some script
 end_some None script e = absurd (cc)
@@ -181,11 +191,12 @@ turn : (state : State) (script : Script) (c : ℕ) (text : List ℕ) (P : Type 0
 turn state script c text P None is e on = absurd (cc)
 turn state script c text P (Some next) is e on = on next is e
 
-pub accepted : (state : State) (script : Script) (sofar text : List ℕ) → run state text ≡ Accepts script → Spelled state sofar → IsTaken script (sofar ++ text)
-accepted state script sofar [] e s = subst (IsTaken script) (sym (append-nil sofar)) (spelled_end state script sofar (end_some (script_at state) script e) s)
+accepted : (state : State) (script : Script) (sofar text : List ℕ) → run state text ≡ Accepts script → Spelled state sofar → IsFile script (sofar ++ text)
+accepted state script sofar [] e s = subst (IsFile script) (sym (append-nil sofar)) (spelled_end state script sofar (end_some (script_at state) script e) s)
 accepted state script sofar (c ∷ text) e s =
-    turn state script c text (IsTaken script (sofar ++ c ∷ text)) (step state c) refl e
-    (λ next is on. subst (IsTaken script) (append_assoc sofar (c ∷ []) text) (accepted next script (sofar ++ c ∷ []) text on (spelled_step state next c sofar is s)))
+    turn state script c text (IsFile script (sofar ++ c ∷ text)) (step state c) refl e
+    (λ next is on. subst (IsFile script) (append_assoc sofar (c ∷ []) text) (accepted next script (sofar ++ c ∷ []) text on (spelled_step state next c sofar is s)))
 
-pub accepted_taken : (script : Script) (text : List ℕ) → run start text ≡ Accepts script → IsTaken script text
-accepted_taken script text e = accepted start script [] text e (codes "func _init():\n\tprint(", [], refl, refl, no_digits)
+-- what is accepted is a file of the grammar, with that tree
+pub accepted_file : (script : Script) (text : List ℕ) → run start text ≡ Accepts script → IsFile script text
+accepted_file script text e = accepted start script [] text e (record { front = codes "func _init():\n"; rest = []; is = refl; first = refl; second = refl })

@@ -8,8 +8,8 @@
 --
 -- `Str` is `"`, characters 32 to 126 other than `"` and `\`, and `"`. `Int` is 1 to 18 decimal digits. A line has at
 -- most 16 items, and an item at most 64 operators.
-use Rattle.std.specs.Prelude.{◌≡◌, ℕ, ◌+◌, ◌≤◌, ℤ, pos, Bool, ◌&&◌, not, ◌==◌, nat_le, List, [], ◌∷◌, ◌++◌, length, codes, IsTrue, Result, sum_by}
-use Rattle.std.specs.List.{list_all}
+use Rattle.std.specs.Prelude.{◌≡◌, ℕ, ◌+◌, ◌≤◌, ◌<◌, ℤ, pos, Bool, ◌&&◌, not, ◌==◌, nat_le, List, [], ◌∷◌, ◌++◌, length, take, reverse, codes, IsTrue, Result, sum_by, count_by}
+use Rattle.std.specs.List.{list_all, position_or_len}
 use Rattle.std.specs.Char.{is_ascii_digit}
 use Rattle.std.specs.Str.Parse.{digits_value}
 use Rattle.std.specs.declared.result.Result.TheVariants.{Ok, Err}
@@ -117,26 +117,40 @@ pub record IsFile (script : Script) (text : List ℕ) : Type 0 where
   pub some : 1 ≤ length script
   pub spelled : IsThen (Spells (codes "func _init():\n")) (IsPrints 2 script) text
 
--- the tree of a file with one line that prints the sum of two numbers
-abbrev pub one_sum : ℤ → ℤ → Script
-one_sum a b = record { line = 2; items = sum_item (record { first = record { first = a; others = [] }; others = (Add, record { first = b; others = [] }) ∷ [] }) ∷ [] } ∷ []
+-- some file begins with this text
+pub record BeginsFile (text : List ℕ) : Type 0 where
+  pub script : Script
+  pub rest : List ℕ
+  pub is : IsFile script (text ++ rest)
 
--- the text is a file of the grammar that is taken so far
-pub record IsTaken (script : Script) (text : List ℕ) : Type 0 where
-  pub first : ℤ
-  pub second : ℤ
-  pub is : script ≡ one_sum first second
-  pub spelled : IsFile script text
+-- The first character such that no file begins with the text up to it, by its offset; or, where the text is too short,
+-- the offset just past its end.
+pub record IsUnbuiltAt (text : List ℕ) (offset : ℕ) : Type 0 where
+  pub within : offset ≤ length text
+  pub begins : BeginsFile (take offset text)
+  pub no_more : offset < length text → BeginsFile (take (offset + 1) text) → ⊥
+  pub no_file : offset ≡ length text → (script : Script) → IsFile script text → ⊥
+
+abbrev pub is_newline : ℕ → Bool
+is_newline c = c == 10
+
+-- the line of an offset, from 1
+abbrev pub line_of : List ℕ → ℕ → ℕ
+line_of text offset = 1 + count_by is_newline (take offset text)
+
+-- the column of an offset before which each character is one byte, from 1: what follows the last newline before it
+abbrev pub column_of : List ℕ → ℕ → ℕ
+column_of text offset = 1 + position_or_len is_newline (reverse (take offset text))
 
 -- what a text is read as: a script, or a fault at a line and a column
 pub data FirstReading : Type 0 where
   taken : Script → FirstReading
   unbuilt : ℕ → ℕ → FirstReading
 
--- what the text is read as; a file that is not taken has its fault as a whole
+-- what the text is read as
 abbrev pub IsFirstReading : List ℕ → FirstReading → Type 0
-IsFirstReading text (taken script) = IsTaken script text
-IsFirstReading text (unbuilt line column) = (line ≡ 0) × (column ≡ 0) × ((script : Script) → IsTaken script text → ⊥)
+IsFirstReading text (taken script) = IsFile script text
+IsFirstReading text (unbuilt line column) = (offset : ℕ) × IsUnbuiltAt text offset × (line ≡ line_of text offset) × (column ≡ column_of text offset)
 
 -- what `parse_first` answers
 abbrev pub IsParsed : List ℕ → Result FirstScript SolveError → Type 0

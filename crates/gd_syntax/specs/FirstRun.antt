@@ -3,7 +3,6 @@ use Rattle.std.specs.Prelude.{ℕ, ◌+◌, ◌-◌, ℤ, ◌+ℤ◌, ◌-ℤ◌
 use Rattle.std.specs.List.{flat_map}
 use Rattle.std.specs.Fmt.{decimal, signed_decimal}
 use Rattle.std.specs.Int.{int_wrap, w64}
-
 use Rattle.gd_syntax.specs.declared.first.SumOp.{SumOp}
 use Rattle.gd_syntax.specs.declared.first.SumOp.TheVariants.{Add, Sub}
 use Rattle.gd_syntax.specs.FirstTree.{Product, Sum, Item, text_item, sum_item, Print, Script}

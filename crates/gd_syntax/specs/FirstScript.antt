@@ -1,6 +1,5 @@
 -- The plain data that the code's tree stands for.
-use Rattle.std.specs.Prelude.{List, map, string_bytes}
-use Rattle.gd_syntax.specs.declared.first.SumOp.{SumOp}
+use Rattle.std.specs.Prelude.{map, string_bytes}
 use Rattle.gd_syntax.specs.declared.first.FirstProduct.{FirstProduct}
 use Rattle.gd_syntax.specs.declared.first.FirstSum.{FirstSum}
 use Rattle.gd_syntax.specs.declared.first.FirstItem.{FirstItem}

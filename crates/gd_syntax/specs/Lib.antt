@@ -1,4 +1,5 @@
 pub mod ResPath
+pub mod Parts
 pub mod Faults
 pub mod FirstTree
 pub mod FirstScript

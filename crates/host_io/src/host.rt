@@ -115,7 +115,7 @@ impl Walk {
             return Ok(());
         }
         let path = format!(in alloc; "res://{folder}{name}")?;
-        if kind.is_file() || kind.is_symlink() && !leads_elsewhere(rt, entry) {
+        if kind.is_file() || kind.is_symlink() && !leads_elsewhere(rt, entry)? {
             self.add(path)?;
         }
         Ok(())
@@ -146,10 +146,14 @@ impl Walk {
 }
 
 /// A link leads to what is no regular file. One that leads nowhere is listed, and its read then fails.
-fn leads_elsewhere<R: Files + AllocGlobal + Clone + Drop>(rt: &R, entry: &DirEntry<R>) -> bool {
-    match fs::metadata(rt, entry.path()) {
-        Ok(target) => !target.is_file(),
-        Err(_) => false,
+fn leads_elsewhere<R: Files + AllocGlobal + Clone + Drop>(
+    rt: &R,
+    entry: &DirEntry<R>,
+) -> Result<bool, ListError> {
+    match fs::metadata(rt, entry.path()).map_err(list_error) {
+        Ok(target) => Ok(!target.is_file()),
+        Err(ListError::NoMemory) => Err(ListError::NoMemory),
+        Err(_) => Ok(false),
     }
 }
 

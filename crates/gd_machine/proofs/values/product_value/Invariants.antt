@@ -1,4 +1,4 @@
-use Rattle.std.proofs.Common.{◌≡◌, take, fold, ◌*ℤ◌, w64, FitsSigned}
+use Rattle.std.proofs.Common.{◌≡◌, take, fold, ◌*ℤ◌, w64}
 use Rattle.std.specs.Int.{int_wrap}
 use Rattle.gd_machine.proofs.values.product_value.Given as goal
 

@@ -1,4 +1,4 @@
-use Rattle.std.proofs.Common.{◌≡◌, ℤ, w64, to_z-of_z, fold, take, ◌+◌, ◌∙◌, sym, refl, length, ◌<◌}
+use Rattle.std.proofs.Common.{◌≡◌, ℤ, w64, to_z-of_z, refl, length, ◌<◌}
 use Rattle.gd_syntax.specs.declared.first.SumOp.{SumOp}
 use Rattle.gd_syntax.specs.declared.first.FirstProduct.{FirstProduct}
 use Rattle.gd_syntax.specs.FirstScript.{product_of}

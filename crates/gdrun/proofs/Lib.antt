@@ -1,0 +1,6 @@
+mod Endings
+mod Found
+mod Texts
+mod Whole
+mod WordLists
+mod Written

@@ -1,0 +1,5 @@
+pub mod Image
+pub mod ImageType
+pub use Rattle.host_io.specs.Causes as FolderCauses
+pub use Rattle.host_io.specs.Folder
+pub use Rattle.host_io.specs.Paths
