@@ -5,7 +5,7 @@ use Rattle.std.specs.declared.cmp.Ordering.TheVariants.{Less}
 use Rattle.std.proofs.lemmas.Bool.Decides.{nat_tests, eqb_tells}
 use Rattle.std.proofs.lemmas.List.Elements.{Contains-append_cases, Contains-push_cases}
 use Rattle.gd_syntax.specs.declared.fault.LoadFault.{LoadFault}
-use Rattle.gd_syntax.specs.declared.fault.FaultKind.TheVariants.{Unbuilt}
+use Rattle.gd_syntax.specs.declared.fault.FaultKind.TheVariants.{Unreadable}
 use Rattle.stage_core.specs.declared.work.StageValue.{StageValue}
 use Rattle.stage_core.specs.declared.work.StageValue.TheVariants.{Done, Refused, Blocked, Absent}
 use Rattle.stage_core.specs.Paths.{path_order}
@@ -21,7 +21,7 @@ abbrev pub sample_path : ℕ → List ℕ
 sample_path file = cond (eqb file 0) (codes "res://a.gd") (cond (eqb file 1) (codes "res://b.gd") (cond (eqb file 2) (codes "res://c.gd") (codes "res://d.gd")))
 
 abbrev pub sample_fault : LoadFault
-sample_fault = record { kind = Unbuilt; place = record { line = 3; column = 1 } }
+sample_fault = record { kind = Unreadable; place = record { line = 3; column = 1 } }
 
 -- the stages of the file that have results, in a tangle
 abbrev pub done_stages : ℕ → ℕ

@@ -72,7 +72,7 @@ impl StageOut for SampleOut {
 
 /// The fault of file 2 of the tangle.
 pub const FAULT: LoadFault = LoadFault {
-    kind: FaultKind::Unbuilt,
+    kind: FaultKind::Unreadable,
     place: Place { line: 3, column: 1 },
 };
 
