@@ -1,9 +1,8 @@
 -- What a later log still says.
-use Rattle.std.proofs.Common.{◌≡◌, ℕ, ◌-◌, ◌≤◌, true, false, ◌||◌, cond, eqb, List, [], ◌∷◌, ◌++◌, Contains, Some, None, option_to_list, refl, sym, ap, ◌∙◌, subst, arith, length-append, append-nil}
+use Rattle.std.proofs.Common.{◌≡◌, ℕ, ◌-◌, ◌≤◌, true, false, ◌||◌, cond, eqb, List, [], ◌∷◌, ◌++◌, Contains, Some, None, option_to_list, refl, sym, ap, ◌∙◌, subst, arith, length-append, append-nil, append_assoc}
 use Rattle.std.proofs.lemmas.List.{take-append-le}
 use Rattle.std.specs.List.{cons_option}
 use Rattle.stage_core.specs.Begins.{Begins}
-use Rattle.std.proofs.Common.{append_assoc}
 use Rattle.std.proofs.lemmas.Bool.Decides.{nat_tests}
 use Rattle.std.proofs.lemmas.List.Elements.{filter_map-append}
 use Rattle.std.proofs.lemmas.List.Folds.{list_any-append}
@@ -115,3 +114,20 @@ open_after g log (e ∷ rest) file stage o =
 
 pub open_later : {O P : Type 0} (g : Ghosts O P) (log later : List (Entry O)) (file stage : ℕ) → Begins log later → IsOpen g log file stage → IsOpen g later file stage
 open_later g log _ file stage p o = subst (λ l. IsOpen g l file stage) p.joins (open_after g log p.rest file stage o)
+
+-- what a log says of a file, each log that begins with it says too
+pub outcomes_begin : {O : Type 0} (log later : List (Entry O)) (file : ℕ) → Begins log later → Begins (outcomes log file) (outcomes later file)
+unfolding outcomes
+outcomes_begin log later file b = record { rest = outcomes b.rest file; joins = sym (filter_map-append (outcome_in file) log b.rest) ∙ ap (λ l. outcomes l file) b.joins }
+
+pub done_later : {O : Type 0} (log later : List (Entry O)) (file stage : ℕ) → Begins log later → is_done_at (outcomes log file) stage ≡ true → is_done_at (outcomes later file) stage ≡ true
+done_later log later file stage b h =
+    let os = outcomes_begin log later file b in
+    subst (λ xs. is_done_at xs stage ≡ true) os.joins (done_stays (outcomes log file) os.rest stage h)
+
+known_after : {O P : Type 0} (g : Ghosts O P) (log rest : List (Entry O)) (file : ℕ) → IsKnown g log file → IsKnown g (log ++ rest) file
+known_after g log [] file k = rw append-nil k
+known_after g log (e ∷ rest) file k = rw append_assoc at (known_after g (log ++ e ∷ []) rest file (known_stays g log e file k))
+
+pub known_later : {O P : Type 0} (g : Ghosts O P) (log later : List (Entry O)) (file : ℕ) → Begins log later → IsKnown g log file → IsKnown g later file
+known_later g log _ file b k = subst (λ l. IsKnown g l file) b.joins (known_after g log b.rest file k)

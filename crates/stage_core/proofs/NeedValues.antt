@@ -7,10 +7,9 @@ use Rattle.stage_core.specs.declared.work.StageValue.TheVariants as stage_value
 use Rattle.stage_core.specs.declared.work.Need.{Need}
 use Rattle.stage_core.specs.Log.{OutcomeValue, Value, Fault, Block, Entry, Request, Claim, Publish, value_of}
 use Rattle.stage_core.specs.Machine.{IsOpen, outcomes, has_final, is_final, is_done_at, first_files, edges, direct_needs, AreNeedsDone, HoldsValue, MayFollow, IsLegal, empty, grows}
-use Rattle.stage_core.specs.Stages.{Reaches, here, on, stage_needed}
+use Rattle.stage_core.specs.Stages.{Reaches, here, on, stage_needed, if_done, value_edges}
 use Rattle.stage_core.specs.Needs.{outcome_for, AreNeeds}
 use Rattle.stage_core.specs.Value.{IsTaskOf, HoldsUpTo, AreNeedsOf}
-use Rattle.stage_core.specs.Stages.{if_done, value_edges}
 use Rattle.stage_core.proofs.Grow.{added, outcomes-push, Reaches-back}
 use Rattle.stage_core.proofs.Legal.{Laws, AreValues, values_hold, known_in}
 use Rattle.stage_core.proofs.NeedOutcomes.{in_place, needed_pos, some_outcome}

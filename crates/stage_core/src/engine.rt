@@ -21,7 +21,8 @@ use std::alloc::{AllocError, Global};
 use std::marker::Model;
 use std::snapshot::Snapshot;
 
-/// A log of requests, claims and published outcomes, and the tasks under way. All its room is taken when it is made.
+/// A log of requests, claims and published outcomes, and the tasks under way. All its room is taken when it is made:
+/// requests, claims, publishes and statuses take no memory.
 #[derive(Drop)]
 pub struct Core<O: StageOut> {
     // The project, for contracts alone.

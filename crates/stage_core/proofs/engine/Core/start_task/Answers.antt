@@ -1,9 +1,8 @@
-use Rattle.std.proofs.Common.{arith, sym, subst, refl, ◌≡◌, ◌∙◌, false, true}
+use Rattle.std.proofs.Common.{arith, sym, subst, refl, ◌≡◌, ◌∙◌, false, true, append-nil}
 use Rattle.stage_core.specs.Rows.{log_of}
 use Rattle.stage_core.specs.Machine.{is_claimed, IsReady}
 use Rattle.stage_core.specs.CoreState.{state}
 use Rattle.stage_core.proofs.Legal.{Laws}
-use Rattle.std.proofs.Common.{append-nil}
 use Rattle.stage_core.proofs.Grow.{outcomes-push, open_stays}
 use Rattle.stage_core.proofs.Sound.{ready_is_open}
 use Rattle.stage_core.proofs.Logs.{prefix_joins}
