@@ -1,2 +1,3 @@
 mod Segments
 mod Turns
+mod Texts

@@ -5,3 +5,8 @@ pub mod FirstTree
 pub mod FirstScript
 pub mod FirstGrammar
 pub mod FirstRun
+pub mod Tokens
+pub mod Spellings
+pub mod Layout
+pub mod Header
+pub mod Longest

@@ -4,8 +4,12 @@
 
 mod fault;
 mod first;
+mod name;
 mod path;
+mod token;
 
-pub use fault::{FaultKind, LoadFault, Place, SolveError};
+pub use fault::{FaultKind, Form, LoadFault, Place, SolveError};
 pub use first::{FirstItem, FirstPrint, FirstProduct, FirstScript, FirstSum, SumOp};
+pub use name::{Name, Text};
 pub use path::{PathError, ResPath};
+pub use token::{KEYWORDS, Kind, Mark, SIGNS, Token};

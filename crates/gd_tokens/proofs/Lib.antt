@@ -1,0 +1,7 @@
+pub mod Scans
+pub mod StringParts
+pub mod Pieces
+pub mod Lists
+pub mod Files
+pub mod Longest
+pub mod LongestSigns

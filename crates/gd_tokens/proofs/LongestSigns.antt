@@ -1,0 +1,95 @@
+-- The sign that is read is the longest that begins the text.
+use Rattle.std.proofs.Common.{◌≡◌, refl, sym, ap, ◌∙◌, ℕ, zero, suc, ◌<◌, ◌≤◌, Bool, true, false, cond, bytes_eq, List, [], ◌∷◌, length, take, Option, Some, None, arith}
+use Rattle.std.specs.Prelude.{nat_le, is_some}
+use Rattle.std.specs.List.{list_all}
+use Rattle.std.proofs.lemmas.Bool.{and_parts}
+use Rattle.std.proofs.lemmas.Bool.Decides.{nat_tests}
+use Rattle.std.proofs.lemmas.List.{length-take}
+use Rattle.gd_syntax.specs.declared.token.Mark.{Mark}
+use Rattle.gd_syntax.specs.declared.token.TheConstants.{SIGNS}
+use Rattle.gd_syntax.specs.declared.token.Kind.TheVariants.{Mark as Marked}
+use Rattle.gd_syntax.specs.Tokens.{mark_text}
+use Rattle.gd_syntax.specs.Spellings.{token, or_else, sign_at, spelled}
+use Rattle.gd_syntax.specs.Longest.{IsLongest, is_sign_text}
+use Rattle.gd_tokens.proofs.Scans.{spelled_is}
+
+is_short : Mark → Bool
+is_short m = nat_le (length (mark_text m)) 3
+
+short_turn : (x : Mark) (marks : List Mark) (text : List ℕ) (m : Mark) (b : Bool) → is_short x ≡ true → cond b (Some x) (spelled marks text) ≡ Some m → (spelled marks text ≡ Some m → is_short m ≡ true) → is_short m ≡ true
+short_turn x marks text m true short e others = let same : x ≡ m = cc in ap is_short (sym same) ∙ short
+short_turn x marks text m false short e others = others e
+
+short_found : (marks : List Mark) (text : List ℕ) (m : Mark) → list_all is_short marks ≡ true → spelled marks text ≡ Some m → is_short m ≡ true
+unfolding spelled
+short_found [] text m short e = absurd (cc)
+short_found (x ∷ marks) text m short e =
+    let both = and_parts (is_short x) (list_all is_short marks) short in
+    short_turn x marks text m (bytes_eq (mark_text x) text) both.0 e (short_found marks text m both.1)
+
+signs_short : list_all is_short SIGNS ≡ true
+unfolding is_short
+signs_short = refl
+
+short_text : (text : List ℕ) (m : Mark) → spelled SIGNS text ≡ Some m → length text ≤ 3
+unfolding is_short
+short_text text m e =
+    let short : nat_le (length (mark_text m)) 3 ≡ true = short_found SIGNS text m signs_short e in
+    let few : length (mark_text m) ≤ 3 = grind (arith, nat_tests) in
+    omega (arith, few, ap length (spelled_is SIGNS text m e))
+
+not_some : (o : Option Mark) → ((m : Mark) → o ≡ Some m → ⊥) → is_some o ≡ false
+not_some None h = refl
+not_some (Some m) h = absurd (h m refl)
+
+past_three : (text : List ℕ) (k : ℕ) → 3 < k → k ≤ length text → is_sign_text (take k text) ≡ false
+past_three text k more fits = not_some (spelled SIGNS (take k text)) (λ m e. absurd (omega (arith, more, fits, short_text (take k text) m e, length-take k text)))
+
+take_same : (n : ℕ) (text : List ℕ) → take (length (take n text)) text ≡ take n text
+take_same zero text = refl
+take_same (suc n) [] = refl
+take_same (suc n) (c ∷ text) = ap (λ t. c ∷ t) (take_same n text)
+
+-- a sign of at most n characters is the longest of these
+record Best (n : ℕ) (text : List ℕ) (size : ℕ) : Type 0 where
+  pub fits : size ≤ length text
+  pub spelled : is_sign_text (take size text) ≡ true
+  pub longest : (k : ℕ) → size < k → k ≤ n → k ≤ length text → is_sign_text (take k text) ≡ false
+
+last_case : (n : ℕ) (text : List ℕ) (size k : ℕ) → spelled SIGNS (take (suc n) text) ≡ None → ((k : ℕ) → size < k → k ≤ n → k ≤ length text → is_sign_text (take k text) ≡ false)
+    → size < k → k ≤ suc n → k ≤ length text → (inner : Bool) → nat_le k n ≡ inner → is_sign_text (take k text) ≡ false
+last_case n text size k none longest more few fits true is = longest k more (grind (arith, nat_tests)) fits
+last_case n text size k none longest more few fits false is =
+    let last : k ≡ suc n = grind (arith, nat_tests) in
+    ap (λ j. is_sign_text (take j text)) last ∙ ap is_some none
+
+last_turn : (n : ℕ) (text : List ℕ) (size k : ℕ) → spelled SIGNS (take (suc n) text) ≡ None → ((k : ℕ) → size < k → k ≤ n → k ≤ length text → is_sign_text (take k text) ≡ false)
+    → size < k → k ≤ suc n → k ≤ length text → is_sign_text (take k text) ≡ false
+last_turn n text size k none longest more few fits = last_case n text size k none longest more few fits (nat_le k n) refl
+
+best_turn : (n : ℕ) (text : List ℕ) (m : Mark) (size : ℕ) (o : Option Mark) → spelled SIGNS (take (suc n) text) ≡ o → or_else o (sign_at n text) ≡ token (Marked m) size → (sign_at n text ≡ token (Marked m) size → Best n text size) → Best (suc n) text size
+best_turn n text m size None is e rest =
+    let b = rest e in
+    record { fits = b.fits; spelled = b.spelled; longest = λ k more few fits. last_turn n text size k is b.longest more few fits }
+best_turn n text m size (Some x) is e rest =
+    let len : length (mark_text x) ≡ size = cc in
+    let all : length (take (suc n) text) ≡ size = ap length (sym (spelled_is SIGNS (take (suc n) text) x is)) ∙ len in
+    record {
+      fits = omega (arith, all, length-take (suc n) text);
+      spelled = ap (λ k. is_sign_text (take k text)) (sym all) ∙ ap is_sign_text (take_same (suc n) text) ∙ ap is_some is;
+      longest = λ k more few fits. absurd (omega (arith, all, more, few, fits, length-take (suc n) text));
+    }
+
+best : (n : ℕ) (text : List ℕ) (m : Mark) (size : ℕ) → sign_at n text ≡ token (Marked m) size → Best n text size
+unfolding sign_at
+best zero text m size e = absurd (cc)
+best (suc n) text m size e = best_turn n text m size (spelled SIGNS (take (suc n) text)) refl e (best n text m size)
+
+after_three : (text : List ℕ) (size k : ℕ) → ((k : ℕ) → size < k → k ≤ 3 → k ≤ length text → is_sign_text (take k text) ≡ false) → size < k → k ≤ length text → (few : Bool) → nat_le k 3 ≡ few → is_sign_text (take k text) ≡ false
+after_three text size k longest more fits true is = longest k more (grind (arith, nat_tests)) fits
+after_three text size k longest more fits false is = past_three text k (grind (arith, nat_tests)) fits
+
+pub longest_sign : (text : List ℕ) (m : Mark) (size : ℕ) → sign_at 3 text ≡ token (Marked m) size → IsLongest is_sign_text text size
+longest_sign text m size e =
+    let b = best 3 text m size e in
+    record { fits = b.fits; spelled = b.spelled; longest = λ k more fits. after_three text size k b.longest more fits (nat_le k 3) refl }

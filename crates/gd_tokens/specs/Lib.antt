@@ -1,0 +1,6 @@
+pub mod FoundParts
+pub mod StringParts
+pub mod LineParts
+pub mod LayoutParts
+pub mod ListParts
+pub mod CursorParts
