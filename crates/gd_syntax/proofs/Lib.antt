@@ -1,3 +1,4 @@
+pub mod Crossing
 mod Segments
 mod Turns
 mod Texts

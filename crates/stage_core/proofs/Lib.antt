@@ -1,4 +1,5 @@
 pub mod Collect
+pub mod Crossing
 pub mod CoreSteps
 pub mod Grow
 pub mod Legal
