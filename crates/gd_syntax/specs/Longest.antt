@@ -1,5 +1,5 @@
 -- The longest front of a text that is spelled in a way.
-use Rattle.std.specs.Prelude.{◌≡◌, ℕ, ◌<◌, ◌≤◌, Bool, true, false, ◌&&◌, ◌||◌, ◌==◌, if◌then◌else◌, List, [], ◌∷◌, length, take, is_some}
+use Rattle.std.specs.Prelude.{◌≡◌, ℕ, ◌<◌, ◌≤◌, Bool, true, false, ◌&&◌, ◌==◌, if◌then◌else◌, List, [], ◌∷◌, length, take, is_some}
 use Rattle.gd_syntax.specs.declared.token.TheConstants.{SIGNS}
 use Rattle.gd_syntax.specs.Spellings.{is_digit, spelled}
 
