@@ -7,9 +7,15 @@ mod first;
 mod name;
 mod path;
 mod token;
+mod tree;
 
 pub use fault::{FaultKind, Form, LoadFault, Place, SolveError};
 pub use first::{FirstItem, FirstPrint, FirstProduct, FirstScript, FirstSum, SumOp};
 pub use name::{Name, Text};
 pub use path::{PathError, ResPath};
 pub use token::{KEYWORDS, Kind, Mark, SIGNS, Token};
+pub use tree::{
+    Annotation, AssignOp, Base, BaseRoot, Const, Declared, Enum, EnumItem, Expr, Func, Head,
+    Identifier, Literal, Member, Param, PathText, Pattern, Script, Signal, Simple, Stmt, TreeOp,
+    TreePrefix, TypeName, Var,
+};
