@@ -5,3 +5,8 @@ pub mod Only
 pub mod OnlyTypes
 pub mod OnlyPatterns
 pub mod OnlyExprs
+pub mod Levels
+pub mod Steps
+pub mod TypeSteps
+pub mod ExprSteps
+pub mod ExprExamples

@@ -50,6 +50,13 @@ begins n (Marked m.Not) = nat_le NOT n
 begins n (Marked m.Bang) = nat_le NOT n
 begins n kind = is_operand kind
 
+-- whether a further part of a postfix form begins with this token
+abbrev pub is_part : Option Mark → Bool
+is_part (Some m.LBracket) = true
+is_part (Some m.Dot) = true
+is_part (Some m.LParen) = true
+is_part _ = false
+
 -- whether the two tokens begin an entry `name = value`
 abbrev pub is_field : Kind → Option Mark → Bool
 is_field (Name text) (Some m.Assign) = is_plain text
