@@ -14,8 +14,8 @@ use Rattle.gd_syntax.specs.Operators.{PREFIX, NOT, OR, TERNARY, AS}
 use Rattle.gd_syntax.specs.Reading.{Reading}
 use Rattle.gd_syntax.specs.Refusals.{Operand, Node, LoadPath, Other, is_load}
 use Rattle.gd_syntax.specs.TokenReading.{list, place_at, any_name, plain_name, is_plain, literal_of}
-use Rattle.gd_syntax.specs.ExprGrammar.{leaf, paren, array, entry, field, dict_by, dict, preload, load, step_by, step, node_by, node, super_by, super, named, other_by, operand_by, operand, part_by, part, postfix, kind_test_by, test_by, test, type_test, prefix_by, prefix, operation_by, operation, BinaryTurn, binary, negation_by, negation, level, ternary_by, ternary, cast_by, cast, form, full, deeper, expression}
-use Rattle.gd_syntax.proofs.Only.{Only, only_is, only_then, only_look, only_loop, only_either, only_skip, only_due, only_one, only_identifier, only_path_text, only_list}
+use Rattle.gd_syntax.specs.ExprGrammar.{leaf, paren, array, entry, field_name, field_name_by, field, dict_by, dict, preload, load, step_by, step, node_by, node, super_by, super, named, other_by, operand_by, operand, part_by, part, postfix, kind_test_by, test_by, test, type_test, prefix_by, prefix, operation_by, operation, BinaryTurn, binary, negation_by, negation, level, ternary_by, ternary, cast_by, cast, form, full, deeper, expression}
+use Rattle.gd_syntax.proofs.Only.{Only, only_is, only_then, only_look, only_loop, only_either, only_skip, only_due, only_one, only_path_text, only_list}
 use Rattle.gd_syntax.proofs.OnlyTypes.{only_type_name}
 
 module _ (tokens : List Token) where
@@ -26,8 +26,15 @@ module _ (tokens : List Token) where
     only_entry : Only (entry tokens room inner)
     only_entry = only_then _ _ (i 0 AS) (λ key. only_then _ _ (only_due tokens Other m.Colon) (λ _. only_then _ _ (i 0 AS) (λ value. only_is _)))
 
+    only_field_name_by : (place : Place) (name : Option (List ℕ)) → Only (field_name_by tokens room inner place name)
+    only_field_name_by place (Some name) = only_then _ _ (only_is _) (λ _. only_then _ _ (only_skip tokens) (λ _. only_is _))
+    only_field_name_by place None = only_is _
+
+    only_field_name : Only (field_name tokens room inner)
+    only_field_name at = only_look _ _ (only_field_name_by (place_at tokens at)) at
+
     only_field : Only (field tokens room inner)
-    only_field = only_then _ _ (only_identifier tokens) (λ key. only_then _ _ (only_due tokens Other m.Assign) (λ _. only_then _ _ (i 0 AS) (λ value. only_is _)))
+    only_field = only_then _ _ only_field_name (λ key. only_then _ _ (only_due tokens Other m.Assign) (λ _. only_then _ _ (i 0 AS) (λ value. only_is _)))
 
     only_dict_by : (place : Place) (b : Bool) → Only (dict_by tokens room inner place b)
     only_dict_by place true = only_then _ _ (only_list tokens _ only_field m.RBrace) (λ all. only_is _)

@@ -18,7 +18,7 @@ use Rattle.gd_syntax.specs.Levels.{levels}
 use Rattle.gd_syntax.specs.Operators.{PREFIX, NOT, OR, TERNARY, AS, level_of, operator_of, prefix_of, is_not}
 use Rattle.gd_syntax.specs.Reading.{Outcome, Read, Stops, Reading, Then, ◌>>=◌, ◌>>◌, give, either, Look, Turn, On, Last, Loop}
 use Rattle.gd_syntax.specs.Refusals.{Sought, Operand, Node, LoadPath, Other, is_load}
-use Rattle.gd_syntax.specs.TokenReading.{any_name, plain_name, is_plain, literal_of, kind_at, mark_at, place_at, fault_at, skip, refuse, refusal_at, Due, OneOf, identifier, path_text, fits, list}
+use Rattle.gd_syntax.specs.TokenReading.{any_name, plain_name, is_plain, literal_of, kind_at, mark_at, place_at, fault_at, skip, refuse, refusal_at, Due, OneOf, path_text, fits, list}
 use Rattle.gd_syntax.specs.TypeGrammar.{type_name}
 
 -- whether an operand begins with this token that is no literal
@@ -89,9 +89,17 @@ module _ (tokens : List Token) (room : ℕ) (inner : ℕ → ℕ → Reading Exp
   abbrev pub entry : Reading (Expr × Expr)
   entry = do key ← whole; Due tokens Other m.Colon; value ← whole; give (key, value)
 
+  -- the name of an entry `name = value`, of which the value is still due
+  abbrev pub field_name_by : Place → Option (List ℕ) → Reading Identifier
+  field_name_by place (Some name) = do fits tokens room 2; skip tokens; give (record { place = place; name = name })
+  field_name_by place None = refuse tokens Other
+
+  abbrev pub field_name : Reading Identifier
+  field_name = λ at. Look (λ to. plain_name (kind_at tokens to)) (field_name_by (place_at tokens at)) at
+
   -- `name = value`
   abbrev pub field : Reading (Identifier × Expr)
-  field = do key ← identifier tokens; Due tokens Other m.Assign; value ← whole; give (key, value)
+  field = do key ← field_name; Due tokens Other m.Assign; value ← whole; give (key, value)
 
   -- the entries are all of the sort of the first
   abbrev pub dict_by : Place → Bool → Reading Expr

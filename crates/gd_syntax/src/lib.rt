@@ -4,6 +4,7 @@
 
 mod fault;
 mod first;
+mod laws;
 mod name;
 mod path;
 mod token;
@@ -11,6 +12,7 @@ mod tree;
 
 pub use fault::{FaultKind, Form, LoadFault, Place, SolveError};
 pub use first::{FirstItem, FirstPrint, FirstProduct, FirstScript, FirstSum, SumOp};
+pub use laws::readings_are_unique;
 pub use name::{Name, Text};
 pub use path::{PathError, ResPath};
 pub use token::{KEYWORDS, Kind, Mark, SIGNS, Token};
