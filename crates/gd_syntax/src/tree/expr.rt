@@ -38,7 +38,7 @@ pub enum TreePrefix {
 }
 
 /// A value that is written as one token.
-#[derive(Debug, Drop)]
+#[derive(Debug, PartialEq, Drop)]
 pub enum Literal {
     Null,
     Bool(bool),
@@ -47,7 +47,7 @@ pub enum Literal {
 }
 
 /// An expression. The place is that of its first token.
-#[derive(Debug, Drop)]
+#[derive(Debug, PartialEq, Drop)]
 pub enum Expr {
     Literal(Place, Literal),
     Name(Place, Name),

@@ -6,7 +6,7 @@ use crate::tree::{Declared, Expr, Identifier, Stmt, TypeName};
 use tree_lists::Items;
 
 /// `@name(args)`
-#[derive(Debug, Drop)]
+#[derive(Debug, PartialEq, Drop)]
 pub struct Annotation {
     pub place: Place,
     pub name: Name,
@@ -14,7 +14,7 @@ pub struct Annotation {
 }
 
 /// What a base begins with.
-#[derive(Debug, Drop)]
+#[derive(Debug, PartialEq, Drop)]
 pub enum BaseRoot {
     /// the path of a file
     Path(Text),
@@ -22,7 +22,7 @@ pub enum BaseRoot {
 }
 
 /// What a class extends: a file or a class, and the names of inner classes after the dots.
-#[derive(Debug, Drop)]
+#[derive(Debug, PartialEq, Drop)]
 pub struct Base {
     pub place: Place,
     pub root: BaseRoot,
@@ -30,14 +30,14 @@ pub struct Base {
 }
 
 /// A line above the members of a file.
-#[derive(Debug, Drop)]
+#[derive(Debug, PartialEq, Drop)]
 pub enum Head {
     Annotation(Annotation),
     ClassName(Place, Identifier, Option<Base>),
     Extends(Place, Base),
 }
 
-#[derive(Debug, Drop)]
+#[derive(Debug, PartialEq, Drop)]
 pub struct Var {
     pub place: Place,
     pub annotations: Items<Annotation>,
@@ -45,7 +45,7 @@ pub struct Var {
     pub declared: Declared,
 }
 
-#[derive(Debug, Drop)]
+#[derive(Debug, PartialEq, Drop)]
 pub struct Const {
     pub place: Place,
     pub name: Identifier,
@@ -53,33 +53,33 @@ pub struct Const {
     pub value: Expr,
 }
 
-#[derive(Debug, Drop)]
+#[derive(Debug, PartialEq, Drop)]
 pub struct EnumItem {
     pub name: Identifier,
     pub value: Option<Expr>,
 }
 
-#[derive(Debug, Drop)]
+#[derive(Debug, PartialEq, Drop)]
 pub struct Enum {
     pub place: Place,
     pub name: Option<Identifier>,
     pub items: Items<EnumItem>,
 }
 
-#[derive(Debug, Drop)]
+#[derive(Debug, PartialEq, Drop)]
 pub struct Param {
     pub name: Identifier,
     pub declared: Declared,
 }
 
-#[derive(Debug, Drop)]
+#[derive(Debug, PartialEq, Drop)]
 pub struct Signal {
     pub place: Place,
     pub name: Identifier,
     pub params: Items<Param>,
 }
 
-#[derive(Debug, Drop)]
+#[derive(Debug, PartialEq, Drop)]
 pub struct Func {
     pub place: Place,
     pub annotations: Items<Annotation>,
@@ -91,7 +91,7 @@ pub struct Func {
 }
 
 /// A member of a class. The place is that of its first token.
-#[derive(Debug, Drop)]
+#[derive(Debug, PartialEq, Drop)]
 pub enum Member {
     Pass(Place),
     Var(Var),
@@ -104,7 +104,7 @@ pub enum Member {
 }
 
 /// A file.
-#[derive(Debug, Drop)]
+#[derive(Debug, PartialEq, Drop)]
 pub struct Script {
     pub place: Place,
     pub heads: Items<Head>,

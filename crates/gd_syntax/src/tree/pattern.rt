@@ -6,7 +6,7 @@ use crate::tree::{Identifier, Literal};
 use tree_lists::{Boxed, Items};
 
 /// A pattern of a `match`. The place is that of its first token.
-#[derive(Debug, Drop)]
+#[derive(Debug, PartialEq, Drop)]
 pub enum Pattern {
     /// `_`
     Wildcard(Place),

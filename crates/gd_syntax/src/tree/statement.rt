@@ -21,7 +21,7 @@ pub enum AssignOp {
 }
 
 /// A statement that opens no block. The place is that of its first token.
-#[derive(Debug, Drop)]
+#[derive(Debug, PartialEq, Drop)]
 pub enum Simple {
     Pass(Place),
     Break(Place),
@@ -37,7 +37,7 @@ pub enum Simple {
 }
 
 /// A statement. The place is that of its first token. A block is a list of statements.
-#[derive(Debug, Drop)]
+#[derive(Debug, PartialEq, Drop)]
 pub enum Stmt {
     Simple(Simple),
     /// the conditions of `if` and `elif` with their blocks, and the block of `else`

@@ -6,21 +6,21 @@ use crate::tree::Expr;
 use tree_lists::Items;
 
 /// A name that is declared, or is a key, and where it stands.
-#[derive(Debug, Drop)]
+#[derive(Debug, PartialEq, Drop)]
 pub struct Identifier {
     pub place: Place,
     pub name: Name,
 }
 
 /// The path of a `preload` or `load`, and where it stands.
-#[derive(Debug, Drop)]
+#[derive(Debug, PartialEq, Drop)]
 pub struct PathText {
     pub place: Place,
     pub text: Text,
 }
 
 /// A type as it is written.
-#[derive(Debug, Drop)]
+#[derive(Debug, PartialEq, Drop)]
 pub enum TypeName {
     /// The names between the dots, and the name of the elements of an array, which no type has yet.
     Named(Place, Items<Name>, Option<Items<Name>>),
@@ -29,7 +29,7 @@ pub enum TypeName {
 }
 
 /// What a variable or a parameter is declared to be.
-#[derive(Debug, Drop)]
+#[derive(Debug, PartialEq, Drop)]
 pub enum Declared {
     /// `: Type = value`, where each part may be missing.
     Typed(Option<TypeName>, Option<Expr>),
