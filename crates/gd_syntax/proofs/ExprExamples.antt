@@ -20,7 +20,8 @@ use Rattle.gd_syntax.specs.declared.tree.expr.TreeOp.TheVariants as op
 use Rattle.gd_syntax.specs.Operators.{PREFIX, NOT, OR, TERNARY, AS, level_of, is_not, prefix_of}
 use Rattle.gd_syntax.specs.Levels.{levels}
 use Rattle.gd_syntax.specs.Reading.{Outcome, Read, Stops, Reading, goes, halts, Look, looks, Turn, On, Last, Loop, either}
-use Rattle.gd_syntax.specs.Refusals.{Operand, Other, refusal}
+use Rattle.gd_syntax.specs.declared.stops.Sought.TheVariants.{Operand, Other}
+use Rattle.gd_syntax.specs.Refusals.{refusal}
 use Rattle.gd_syntax.specs.TokenReading.{kind_at, mark_at, place_at, fault_at, mark_of, literal_of, plain_name, is_plain, Due, OneOf, Item, fits}
 use Rattle.gd_syntax.specs.ExprGrammar.{is_part, operand, postfix, type_test, negation, binary, level, ternary, cast, BinaryTurn, form, deeper, expression}
 use Rattle.gd_syntax.proofs.Levels.{levels-Name, levels-Binary, levels-Ternary}

@@ -7,7 +7,8 @@ use Rattle.gd_syntax.specs.declared.token.Kind.TheVariants.{Mark as Marked, Name
 use Rattle.gd_syntax.specs.declared.token.Mark.{Mark}
 use Rattle.gd_syntax.specs.declared.token.Mark.TheVariants as m
 use Rattle.gd_syntax.specs.Reading.{Outcome, Read, Stops, Reading, Then, goes, halts, Look, looks, Turn, On, Last, Loop, give, either}
-use Rattle.gd_syntax.specs.Refusals.{Sought, Other}
+use Rattle.gd_syntax.specs.declared.stops.Sought.{Sought}
+use Rattle.gd_syntax.specs.declared.stops.Sought.TheVariants.{Other}
 use Rattle.gd_syntax.specs.TokenReading.{is_uid, mark_at, place_at, skip, Due, OneOf, plain_name, identifier, path_text, path_text_by, Item, comma, comma_by, list}
 
 abbrev pub Only : {A : Type 0} → Reading A → Type 0

@@ -9,7 +9,7 @@ use Rattle.gd_syntax.specs.declared.token.Mark.TheVariants as m
 use Rattle.gd_syntax.specs.declared.tree.expr.Literal.{Literal}
 use Rattle.gd_syntax.specs.declared.tree.pattern.Pattern.{Pattern}
 use Rattle.gd_syntax.specs.Reading.{Reading}
-use Rattle.gd_syntax.specs.Refusals.{Other}
+use Rattle.gd_syntax.specs.declared.stops.Sought.TheVariants.{Other}
 use Rattle.gd_syntax.specs.TokenReading.{place_at, any_name, plain_name, literal_of}
 use Rattle.gd_syntax.specs.PatternGrammar.{more, more_by, items, items_by, rest_by, open_list, names_by, path, key_by, entry_by, entry_pattern, other_pattern_by, pattern_by, pattern_form, pattern}
 use Rattle.gd_syntax.proofs.Only.{Only, only_is, only_then, only_look, only_loop, only_skip, only_due, only_one, only_identifier}

@@ -5,7 +5,8 @@ use Rattle.gd_syntax.specs.declared.fault.Form.{Form}
 use Rattle.gd_syntax.specs.declared.token.Token.{Token}
 use Rattle.gd_syntax.specs.declared.token.Mark.{Mark}
 use Rattle.gd_syntax.specs.declared.token.Mark.TheVariants as m
-use Rattle.gd_syntax.specs.Refusals.{Sought, Other}
+use Rattle.gd_syntax.specs.declared.stops.Sought.{Sought}
+use Rattle.gd_syntax.specs.declared.stops.Sought.TheVariants.{Other}
 use Rattle.gd_syntax.specs.TokenReading.{place_at, plain_name}
 use Rattle.gd_syntax.specs.TypeGrammar.{dotted, dotted_by, typed_by, type_name, result_by, result_type}
 use Rattle.gd_syntax.proofs.Only.{Only, only_is, only_then, only_look, only_loop, only_skip, only_one}

@@ -12,7 +12,7 @@ use Rattle.gd_syntax.specs.declared.token.Mark.{Mark}
 use Rattle.gd_syntax.specs.declared.token.Mark.TheVariants as m
 use Rattle.gd_syntax.specs.declared.token.Token.{Token}
 use Rattle.gd_syntax.specs.Reading.{Outcome, Read, Stops, Reading, Look, looks, Turn, On, Last, Fails, Answers, Gives}
-use Rattle.gd_syntax.specs.Refusals.{Sought}
+use Rattle.gd_syntax.specs.declared.stops.Sought.{Sought}
 use Rattle.gd_syntax.specs.TokenReading.{kind_of, place_of, kind_at, mark_at, place_at, refuse, fits, comma, comma_by, path_text, path_text_by}
 
 pub kind_at_is : (tokens : List Token) (at : ℕ) (d : Token) → at < length tokens → (get_or tokens at d).kind ≡ kind_at tokens at

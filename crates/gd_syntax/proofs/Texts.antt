@@ -7,8 +7,8 @@ use Rattle.std.proofs.lemmas.Bool.Decides.{Decides-eqb}
 use Rattle.std.proofs.lemmas.Slice.Eq.{slice_eq-Decides}
 use Rattle.std.proofs.Math.Utf8.{encodes}
 use Rattle.std.specs.Char.{IsScalar, encode_utf8}
-use Rattle.std.specs.Str.{chars, IsUtf8}
-use Rattle.std.proofs.lemmas.Str.{encodes-chars, chars-append, chars-nil, chars_past_char, IsUtf8-encode}
+use Rattle.std.specs.Str.{chars, IsUtf8, IsAscii}
+use Rattle.std.proofs.lemmas.Str.{chars-IsAscii, encodes-chars, chars-append, chars-nil, chars_past_char, IsUtf8-encode}
 
 chars_one : (c : ℕ) → IsScalar c → chars (encode_utf8 c) ≡ c ∷ []
 chars_one c s = chars_past_char (encode_utf8 c) [] c (IsUtf8-encode c s) (sym (append-nil (encode_utf8 c))) ∙ ap (λ t. c ∷ t) chars-nil
@@ -26,3 +26,7 @@ decided_alike false false d e f g = refl
 pub chars_alike : (xs ys : List ℕ) → IsUtf8 xs → IsUtf8 ys → pointwise nat_eq xs ys ≡ pointwise nat_eq (chars xs) (chars ys)
 chars_alike xs ys u v = decided_alike _ _ (slice_eq-Decides Decides-eqb xs ys _ refl) (slice_eq-Decides Decides-eqb (chars xs) (chars ys) _ refl)
     (λ e. ap chars e) (λ e. sym (encodes-chars xs u) ∙ ap encodes e ∙ encodes-chars ys v)
+
+-- a text compared with a word of ASCII characters
+pub word_alike : (r : Bool) (bs ws text : List ℕ) → IsUtf8 bs → IsUtf8 ws → IsAscii ws → chars bs ≡ text → r ≡ pointwise nat_eq bs ws → r ≡ pointwise nat_eq text ws
+word_alike r bs ws text u v a e h = h ∙ chars_alike bs ws u v ∙ ap (λ t. pointwise nat_eq t (chars ws)) e ∙ ap (λ t. pointwise nat_eq text t) (chars-IsAscii ws a)

@@ -6,7 +6,7 @@ use Rattle.gd_syntax.specs.declared.token.Mark.{Mark}
 use Rattle.gd_syntax.specs.declared.token.Mark.TheVariants as m
 use Rattle.gd_syntax.specs.declared.tree.type_name.TypeName.{TypeName}
 use Rattle.gd_syntax.specs.Reading.{Outcome, Read, Stops, Reading, Look, looks, Turn, On, Last}
-use Rattle.gd_syntax.specs.Refusals.{Other}
+use Rattle.gd_syntax.specs.declared.stops.Sought.TheVariants.{Other}
 use Rattle.gd_syntax.specs.TokenReading.{mark_at, place_at}
 use Rattle.gd_syntax.specs.TypeGrammar.{dotted, dotted_by, bracket_form, type_name, result_by, result_type}
 

@@ -17,7 +17,9 @@ use Rattle.gd_syntax.specs.declared.tree.expr.Expr.TheVariants as e
 use Rattle.gd_syntax.specs.Levels.{levels}
 use Rattle.gd_syntax.specs.Operators.{PREFIX, NOT, OR, TERNARY, AS, level_of, operator_of, prefix_of, is_not}
 use Rattle.gd_syntax.specs.Reading.{Outcome, Read, Stops, Reading, Then, ◌>>=◌, ◌>>◌, give, either, Look, Turn, On, Last, Loop}
-use Rattle.gd_syntax.specs.Refusals.{Sought, Operand, Node, LoadPath, Other, is_load}
+use Rattle.gd_syntax.specs.declared.stops.Sought.{Sought}
+use Rattle.gd_syntax.specs.declared.stops.Sought.TheVariants.{Operand, Node, LoadPath, Other}
+use Rattle.gd_syntax.specs.Refusals.{is_load}
 use Rattle.gd_syntax.specs.TokenReading.{any_name, plain_name, is_plain, literal_of, kind_at, mark_at, place_at, fault_at, skip, refuse, refusal_at, Due, OneOf, path_text, fits, list}
 use Rattle.gd_syntax.specs.TypeGrammar.{type_name}
 

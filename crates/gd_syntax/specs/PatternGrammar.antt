@@ -12,7 +12,8 @@ use Rattle.gd_syntax.specs.declared.tree.expr.Literal.{Literal}
 use Rattle.gd_syntax.specs.declared.tree.pattern.Pattern.{Pattern}
 use Rattle.gd_syntax.specs.declared.tree.pattern.Pattern.TheVariants as p
 use Rattle.gd_syntax.specs.Reading.{Outcome, Read, Stops, Reading, Then, ◌>>=◌, ◌>>◌, give, either, Look, Turn, On, Last, Loop}
-use Rattle.gd_syntax.specs.Refusals.{Sought, Other}
+use Rattle.gd_syntax.specs.declared.stops.Sought.{Sought}
+use Rattle.gd_syntax.specs.declared.stops.Sought.TheVariants.{Other}
 use Rattle.gd_syntax.specs.TokenReading.{any_name, plain_name, is_plain, literal_of, kind_at, mark_at, place_at, fault_at, skip, refuse, refusal_at, Due, OneOf, identifier, fits}
 
 -- whether a pattern begins with this token that is no literal

@@ -4,29 +4,12 @@ use Rattle.gd_syntax.specs.declared.fault.FaultKind.{FaultKind}
 use Rattle.gd_syntax.specs.declared.fault.FaultKind.TheVariants.{Syntax, Unsupported}
 use Rattle.gd_syntax.specs.declared.fault.Form.{Form}
 use Rattle.gd_syntax.specs.declared.fault.Form.TheVariants as form
+use Rattle.gd_syntax.specs.declared.stops.Sought.{Sought}
+use Rattle.gd_syntax.specs.declared.stops.Sought.TheVariants.{Operand, Node, LoadPath, Parameter, VarType, VarEnd, StaticFunc, AnnotationName, Other}
 use Rattle.gd_syntax.specs.declared.token.Kind.{Kind}
 use Rattle.gd_syntax.specs.declared.token.Kind.TheVariants.{Mark as Marked, Name, Int, Text}
 use Rattle.gd_syntax.specs.declared.token.Mark.{Mark}
 use Rattle.gd_syntax.specs.declared.token.Mark.TheVariants as m
-
--- what could come where a reading stops
-pub data Sought : Type 0 where
-  -- an operand of an expression
-  Operand : Sought
-  -- the first name of a node path
-  Node : Sought
-  -- the path of `load`, or the bracket after it
-  LoadPath : Sought
-  Parameter : Sought
-  -- the type of a variable, after its `:`
-  VarType : Sought
-  -- the end of a variable, after its type or value
-  VarEnd : Sought
-  -- what `static` may stand before
-  StaticFunc : Sought
-  -- the name after `@`
-  AnnotationName : Sought
-  Other : Sought
 
 abbrev pub is_float_word : List ℕ → Bool
 is_float_word text = bytes_eq text (codes "float") || (bytes_eq text (codes "PI") || (bytes_eq text (codes "TAU")

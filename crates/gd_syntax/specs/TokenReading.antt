@@ -15,7 +15,9 @@ use Rattle.gd_syntax.specs.declared.tree.expr.Literal.TheVariants as literal
 use Rattle.gd_syntax.specs.declared.tree.type_name.Identifier.{Identifier}
 use Rattle.gd_syntax.specs.declared.tree.type_name.PathText.{PathText}
 use Rattle.gd_syntax.specs.Reading.{Outcome, Read, Stops, Reading, Then, ◌>>=◌, ◌>>◌, fail, give, either, Look, Turn, On, Last, Loop}
-use Rattle.gd_syntax.specs.Refusals.{Sought, Operand, Node, LoadPath, Other, refusal, is_float_word, is_typeof, is_load}
+use Rattle.gd_syntax.specs.declared.stops.Sought.{Sought}
+use Rattle.gd_syntax.specs.declared.stops.Sought.TheVariants.{Operand, Node, LoadPath, Other}
+use Rattle.gd_syntax.specs.Refusals.{refusal, is_float_word, is_typeof, is_load}
 
 -- how many levels a tree has at most
 abbrev pub max_levels : ℕ

@@ -10,7 +10,8 @@ use Rattle.gd_syntax.specs.declared.token.Mark.TheVariants as m
 use Rattle.gd_syntax.specs.declared.tree.type_name.TypeName.{TypeName}
 use Rattle.gd_syntax.specs.declared.tree.type_name.TypeName.TheVariants as t
 use Rattle.gd_syntax.specs.Reading.{Outcome, Read, Stops, Reading, Then, ◌>>=◌, ◌>>◌, give, Look, Turn, On, Last, Loop}
-use Rattle.gd_syntax.specs.Refusals.{Sought, Other}
+use Rattle.gd_syntax.specs.declared.stops.Sought.{Sought}
+use Rattle.gd_syntax.specs.declared.stops.Sought.TheVariants.{Other}
 use Rattle.gd_syntax.specs.TokenReading.{any_name, plain_name, mark_at, place_at, fault_at, skip, OneOf}
 
 -- the types that no bracket may follow, as each would have the type of its elements

@@ -4,7 +4,7 @@ ghost use Rattle.gd_syntax.specs.declared.token.Token.{Token};
 ghost use Rattle.gd_syntax.specs.ExprGrammar.{expression};
 ghost use Rattle.gd_syntax.specs.PatternGrammar.{pattern};
 ghost use Rattle.gd_syntax.specs.Reading.{HasOneAtMost};
-ghost use Rattle.gd_syntax.specs.Refusals.{Sought};
+ghost use Rattle.gd_syntax.specs.declared.stops.Sought.{Sought};
 ghost use Rattle.gd_syntax.specs.TypeGrammar.{type_name, result_type};
 
 /// No reading of a type, a pattern or an expression has two outcomes.

@@ -7,6 +7,7 @@ mod first;
 mod laws;
 mod name;
 mod path;
+mod stops;
 mod token;
 mod tree;
 
@@ -15,6 +16,7 @@ pub use first::{FirstItem, FirstPrint, FirstProduct, FirstScript, FirstSum, SumO
 pub use laws::readings_are_unique;
 pub use name::{Name, Text};
 pub use path::{PathError, ResPath};
+pub use stops::{Sought, refusal};
 pub use token::{KEYWORDS, Kind, Mark, SIGNS, Token};
 pub use tree::{
     Annotation, AssignOp, Base, BaseRoot, Const, Declared, Enum, EnumItem, Expr, Func, Head,
