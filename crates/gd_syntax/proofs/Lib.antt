@@ -9,4 +9,5 @@ pub mod Levels
 pub mod Steps
 pub mod TypeSteps
 pub mod ExprSteps
+pub mod PatternSteps
 pub mod ExprExamples
