@@ -1,7 +1,7 @@
 -- Worked examples of the grammar of expressions.
-use Rattle.std.proofs.Common.{◌≡◌, ◌≢◌, ℕ, zero, suc, ◌+◌, ◌-◌, ◌==◌, ◌||◌, nat_le, nat_lt, List, [], ◌∷◌, ◌++◌, Bool, true, false, Option, Some, None, refl, sym, subst, ap, ◌∙◌, arith, length}
-use Rattle.std.specs.Prelude.{codes, not, ◌&&◌, if◌then◌else◌}
-use Rattle.gd_syntax.specs.declared.fault.FaultKind.TheVariants.{NestTooDeep, Syntax, Unsupported}
+use Rattle.std.proofs.Common.{◌≡◌, ◌≢◌, ℕ, zero, suc, ◌+◌, ◌==◌, nat_le, List, [], ◌∷◌, Bool, true, false, Some, None, refl, ap, ◌∙◌, arith}
+use Rattle.std.specs.Prelude.{codes, not, ◌&&◌}
+use Rattle.gd_syntax.specs.declared.fault.FaultKind.TheVariants.{Syntax, Unsupported}
 use Rattle.gd_syntax.specs.declared.fault.Form.TheVariants as form
 use Rattle.gd_syntax.specs.declared.fault.LoadFault.{LoadFault}
 use Rattle.gd_syntax.specs.declared.tree.expr.TreePrefix.TheVariants as prefix
@@ -11,21 +11,19 @@ use Rattle.gd_syntax.proofs.TypeSteps.{dotted_none, no_bracket}
 use Rattle.gd_syntax.specs.declared.fault.Place.{Place}
 use Rattle.gd_syntax.specs.declared.token.Token.{Token}
 use Rattle.gd_syntax.specs.declared.token.Kind.{Kind}
-use Rattle.gd_syntax.specs.declared.token.Kind.TheVariants.{Mark as Marked, Name, Int, Text}
-use Rattle.gd_syntax.specs.declared.token.Mark.{Mark}
+use Rattle.gd_syntax.specs.declared.token.Kind.TheVariants.{Mark as Marked, Name}
 use Rattle.gd_syntax.specs.declared.token.Mark.TheVariants as m
 use Rattle.gd_syntax.specs.declared.tree.expr.Expr.{Expr}
 use Rattle.gd_syntax.specs.declared.tree.expr.Expr.TheVariants as e
 use Rattle.gd_syntax.specs.declared.tree.expr.TreeOp.TheVariants as op
-use Rattle.gd_syntax.specs.Operators.{PREFIX, NOT, OR, TERNARY, AS, level_of, is_not, prefix_of}
+use Rattle.gd_syntax.specs.Operators.{OR, TERNARY, AS, level_of, is_not, prefix_of}
 use Rattle.gd_syntax.specs.Levels.{levels}
-use Rattle.gd_syntax.specs.Reading.{Outcome, Read, Stops, Reading, goes, halts, Look, looks, Turn, On, Last, Loop, either}
-use Rattle.gd_syntax.specs.declared.stops.Sought.TheVariants.{Operand, Other}
+use Rattle.gd_syntax.specs.Reading.{Outcome, Read, Stops, Reading, goes, halts, looks, Loop, either}
+use Rattle.gd_syntax.specs.declared.stops.Sought.TheVariants.{Other}
 use Rattle.gd_syntax.specs.Refusals.{refusal}
-use Rattle.gd_syntax.specs.TokenReading.{kind_at, mark_at, place_at, fault_at, mark_of, literal_of, plain_name, is_plain, Due, OneOf, Item, fits}
-use Rattle.gd_syntax.specs.ExprGrammar.{is_part, operand, postfix, type_test, negation, binary, level, ternary, cast, BinaryTurn, form, deeper, expression}
+use Rattle.gd_syntax.specs.TokenReading.{kind_at, mark_at, place_at, mark_of, literal_of, plain_name, is_plain, Due, OneOf, Item, fits}
+use Rattle.gd_syntax.specs.ExprGrammar.{is_part, negation, binary, level, ternary, cast, BinaryTurn, deeper, expression}
 use Rattle.gd_syntax.proofs.Levels.{levels-Name, levels-Binary, levels-Ternary}
-use Rattle.gd_syntax.proofs.Steps.{fits_by}
 use Rattle.gd_syntax.proofs.ExprSteps.{part_none, test_none, ternary_none, cast_none, level_zero, level_suc, form_is, expression_is, deeper_is}
 
 -- tokens of a line
@@ -113,11 +111,11 @@ groups_left : expression minus 128 AS 0
 unfolding kind_at place_at
 groups_left = top minus 0 5 _
     (up minus 128 (deeper minus 127) 9 2 0 5 _ refl refl
-      (level_suc minus 128 (deeper minus 127) 1 0 _
-        (goes (up minus 128 (deeper minus 127) 1 0 0 1 _ refl refl (word minus 128 (deeper minus 127) 0 a refl refl refl (λ e. cc e)))
-          (Loop.on (BinaryTurn.operated refl (looks refl (goes (fit minus 128 1 1 1 _ (levels-Name _ _) refl) (goes refl (goes (inside minus 126 1 2 _ (up minus 127 (deeper minus 126) 1 0 2 3 _ refl refl (word minus 127 (deeper minus 126) 2 b refl refl refl (λ e. cc e)))) refl)))))
-          (Loop.on (BinaryTurn.operated refl (looks refl (goes (fit minus 128 2 3 1 _ (rw (levels-Binary, levels-Name, levels-Name) refl) refl) (goes refl (goes (inside minus 126 1 4 _ (up minus 127 (deeper minus 126) 1 0 4 5 _ refl refl (word minus 127 (deeper minus 126) 4 c refl refl refl (λ e. cc e)))) refl)))))
-          (Loop.last (BinaryTurn.ends (λ e. cc e))))))))
+    (level_suc minus 128 (deeper minus 127) 1 0 _
+    (goes (up minus 128 (deeper minus 127) 1 0 0 1 _ refl refl (word minus 128 (deeper minus 127) 0 a refl refl refl (λ e. cc e)))
+    (Loop.on (BinaryTurn.operated refl (looks refl (goes (fit minus 128 1 1 1 _ (levels-Name _ _) refl) (goes refl (goes (inside minus 126 1 2 _ (up minus 127 (deeper minus 126) 1 0 2 3 _ refl refl (word minus 127 (deeper minus 126) 2 b refl refl refl (λ e. cc e)))) refl)))))
+    (Loop.on (BinaryTurn.operated refl (looks refl (goes (fit minus 128 2 3 1 _ (rw (levels-Binary, levels-Name, levels-Name) refl) refl) (goes refl (goes (inside minus 126 1 4 _ (up minus 127 (deeper minus 126) 1 0 4 5 _ refl refl (word minus 127 (deeper minus 126) 4 c refl refl refl (λ e. cc e)))) refl)))))
+    (Loop.last (BinaryTurn.ends (λ e. cc e))))))))
     (λ e. cc e) (λ e. cc e)
 
 -- `not a in b` is `not` over `a in b`.
@@ -128,17 +126,17 @@ not_is_loose : expression not_in 128 AS 0 (Read (e.Not (at_column 1) (e.Binary (
 unfolding kind_at place_at
 not_is_loose = top not_in 0 4 _
     (level_suc not_in 128 (deeper not_in 127) 10 0 _ (goes
-      (level_suc not_in 128 (deeper not_in 127) 9 0 _ (goes
-        (level_suc not_in 128 (deeper not_in 127) 8 0 _ (looks refl (goes refl (goes refl (goes
-          (inside not_in 126 9 1 _ (up not_in 127 (deeper not_in 126) 1 8 1 4 _ refl refl
-            (level_suc not_in 127 (deeper not_in 126) 7 1 _
-              (goes (up not_in 127 (deeper not_in 126) 7 0 1 2 _ refl refl (word not_in 127 (deeper not_in 126) 1 a refl refl refl (λ e. cc e)))
-                (Loop.on (BinaryTurn.operated refl (looks refl (goes (fit not_in 127 1 2 1 _ (levels-Name _ _) refl) (goes refl (goes
-                  (inside not_in 125 7 3 _ (up not_in 126 (deeper not_in 125) 7 0 3 4 _ refl refl (word not_in 126 (deeper not_in 125) 3 b refl refl refl (λ e. cc e)))) refl)))))
-                (Loop.last (BinaryTurn.ends (λ e. cc e))))))))
-          refl)))))
-        (Loop.last (BinaryTurn.ends (λ e. cc e)))))
-      (Loop.last (BinaryTurn.ends (λ e. cc e)))))
+    (level_suc not_in 128 (deeper not_in 127) 9 0 _ (goes
+    (level_suc not_in 128 (deeper not_in 127) 8 0 _ (looks refl (goes refl (goes refl (goes
+    (inside not_in 126 9 1 _ (up not_in 127 (deeper not_in 126) 1 8 1 4 _ refl refl
+    (level_suc not_in 127 (deeper not_in 126) 7 1 _
+    (goes (up not_in 127 (deeper not_in 126) 7 0 1 2 _ refl refl (word not_in 127 (deeper not_in 126) 1 a refl refl refl (λ e. cc e)))
+    (Loop.on (BinaryTurn.operated refl (looks refl (goes (fit not_in 127 1 2 1 _ (levels-Name _ _) refl) (goes refl (goes
+    (inside not_in 125 7 3 _ (up not_in 126 (deeper not_in 125) 7 0 3 4 _ refl refl (word not_in 126 (deeper not_in 125) 3 b refl refl refl (λ e. cc e)))) refl)))))
+    (Loop.last (BinaryTurn.ends (λ e. cc e))))))))
+    refl)))))
+    (Loop.last (BinaryTurn.ends (λ e. cc e)))))
+    (Loop.last (BinaryTurn.ends (λ e. cc e)))))
     (λ e. cc e) (λ e. cc e)
 
 -- `a not in b` is `not` over `a in b` too.
@@ -149,12 +147,12 @@ not_in_is_two : expression in_not 128 AS 0 (Read (e.Not (at_column 1) (e.Binary 
 unfolding kind_at place_at
 not_in_is_two = top in_not 0 4 _
     (up in_not 128 (deeper in_not 127) 3 8 0 4 _ refl refl
-      (level_suc in_not 128 (deeper in_not 127) 7 0 _
-        (goes (up in_not 128 (deeper in_not 127) 7 0 0 1 _ refl refl (word in_not 128 (deeper in_not 127) 0 a refl refl refl (λ e. cc e)))
-          (Loop.on (BinaryTurn.operated refl (looks refl (goes (fit in_not 128 1 1 2 _ (levels-Name _ _) refl) (goes refl (goes (Due.found refl) (goes
-            (deeper_is in_not 127 1 7 3 _ (inside in_not 125 7 3 _ (up in_not 126 (deeper in_not 125) 7 0 3 4 _ refl refl (word in_not 126 (deeper in_not 125) 3 b refl refl refl (λ e. cc e)))))
-            refl))))))
-          (Loop.last (BinaryTurn.ends (λ e. cc e)))))))
+    (level_suc in_not 128 (deeper in_not 127) 7 0 _
+    (goes (up in_not 128 (deeper in_not 127) 7 0 0 1 _ refl refl (word in_not 128 (deeper in_not 127) 0 a refl refl refl (λ e. cc e)))
+    (Loop.on (BinaryTurn.operated refl (looks refl (goes (fit in_not 128 1 1 2 _ (levels-Name _ _) refl) (goes refl (goes (Due.found refl) (goes
+    (deeper_is in_not 127 1 7 3 _ (inside in_not 125 7 3 _ (up in_not 126 (deeper in_not 125) 7 0 3 4 _ refl refl (word in_not 126 (deeper in_not 125) 3 b refl refl refl (λ e. cc e)))))
+    refl))))))
+    (Loop.last (BinaryTurn.ends (λ e. cc e)))))))
     (λ e. cc e) (λ e. cc e)
 
 -- `-a is T` is `-` over `a is T`.
@@ -165,11 +163,11 @@ is_is_tight : expression minus_is 128 AS 0 (Read (e.Prefix (at_column 1) prefix.
 unfolding kind_at place_at
 is_is_tight = top minus_is 0 4 _
     (up minus_is 128 (deeper minus_is 127) 11 0 0 4 _ refl refl (level_zero minus_is 128 (deeper minus_is 127) 0 _ (looks refl (goes refl (goes refl (goes
-      (inside minus_is 126 0 1 _ (level_zero minus_is 127 (deeper minus_is 126) 1 _ (looks refl
-        (goes (goes (looks refl (looks refl (goes refl refl))) (Loop.last (part_none minus_is 127 (deeper minus_is 126) _ _ _ refl)))
-          (Loop.on (looks refl (goes (fit minus_is 127 1 2 1 _ (levels-Name _ _) refl) (goes refl (looks refl (goes (one_type minus_is 3 c refl refl (λ e. cc e) (λ e. cc e)) refl)))))
-          (Loop.last (test_none minus_is 127 (deeper minus_is 126) _ _ _ (λ e. cc e))))))))
-      refl))))))
+    (inside minus_is 126 0 1 _ (level_zero minus_is 127 (deeper minus_is 126) 1 _ (looks refl
+    (goes (goes (looks refl (looks refl (goes refl refl))) (Loop.last (part_none minus_is 127 (deeper minus_is 126) _ _ _ refl)))
+    (Loop.on (looks refl (goes (fit minus_is 127 1 2 1 _ (levels-Name _ _) refl) (goes refl (looks refl (goes (one_type minus_is 3 c refl refl (λ e. cc e) (λ e. cc e)) refl)))))
+    (Loop.last (test_none minus_is 127 (deeper minus_is 126) _ _ _ (λ e. cc e))))))))
+    refl))))))
     (λ e. cc e) (λ e. cc e)
 
 -- `a if c else b if c else a` groups to the right, and `as` is looser.
@@ -185,13 +183,13 @@ groups_right : expression choices 128 AS 0 (Read
 unfolding kind_at place_at
 groups_right = expression_is choices 127 AS 0 _ (form_is choices 128 (deeper choices 127) AS 0 _
     (goes (goes (word_at 127 0 a refl refl refl (λ e. cc e) refl refl) (looks refl (goes (fit choices 128 1 1 1 _ (levels-Name _ _) refl) (goes refl (goes
-        (inside choices 126 11 2 _ (word_at 126 2 c refl refl refl (λ e. cc e) refl refl)) (goes (Due.found refl) (goes
-        (inside choices 126 12 4 _ (goes (word_at 126 4 b refl refl refl (λ e. cc e) refl refl) (looks refl (goes (fit choices 127 1 5 1 _ (levels-Name _ _) refl) (goes refl (goes
-          (inside choices 125 11 6 _ (word_at 125 6 c refl refl refl (λ e. cc e) refl refl)) (goes (Due.found refl) (goes
-          (inside choices 125 12 8 _ (goes (word_at 125 8 a refl refl refl (λ e. cc e) refl refl) (ternary_none choices 126 (deeper choices 125) _ _ 9 (λ e. cc e)))) refl))))))))
-        refl)))))))
-      (Loop.on (looks refl (goes (fit choices 128 3 9 1 _ (rw (levels-Ternary, levels-Name, levels-Name, levels-Ternary, levels-Name, levels-Name, levels-Name) refl) refl) (goes refl (goes (one_type choices 10 c refl refl (λ e. cc e) (λ e. cc e)) refl))))
-      (Loop.last (cast_none choices 128 (deeper choices 127) _ _ 11 (λ e. cc e))))))
+    (inside choices 126 11 2 _ (word_at 126 2 c refl refl refl (λ e. cc e) refl refl)) (goes (Due.found refl) (goes
+    (inside choices 126 12 4 _ (goes (word_at 126 4 b refl refl refl (λ e. cc e) refl refl) (looks refl (goes (fit choices 127 1 5 1 _ (levels-Name _ _) refl) (goes refl (goes
+    (inside choices 125 11 6 _ (word_at 125 6 c refl refl refl (λ e. cc e) refl refl)) (goes (Due.found refl) (goes
+    (inside choices 125 12 8 _ (goes (word_at 125 8 a refl refl refl (λ e. cc e) refl refl) (ternary_none choices 126 (deeper choices 125) _ _ 9 (λ e. cc e)))) refl))))))))
+    refl)))))))
+    (Loop.on (looks refl (goes (fit choices 128 3 9 1 _ (rw (levels-Ternary, levels-Name, levels-Name, levels-Ternary, levels-Name, levels-Name, levels-Name) refl) refl) (goes refl (goes (one_type choices 10 c refl refl (λ e. cc e) (λ e. cc e)) refl))))
+    (Loop.last (cast_none choices 128 (deeper choices 127) _ _ 11 (λ e. cc e))))))
 
 -- `a + not b` stops at `not`.
 abbrev plus_not : List Token
@@ -201,9 +199,9 @@ not_wants_parentheses : expression plus_not 128 AS 0 (Stops (record { kind = Syn
 unfolding kind_at place_at refusal
 not_wants_parentheses = top_stop plus_not 0 _
     (up_stop plus_not 128 (deeper plus_not 127) 9 2 0 _ refl (level_suc plus_not 128 (deeper plus_not 127) 1 0 _
-      (goes (up plus_not 128 (deeper plus_not 127) 1 0 0 1 _ refl refl (word plus_not 128 (deeper plus_not 127) 0 a refl refl refl (λ e. cc e)))
-        (Loop.stop (BinaryTurn.operated refl (looks refl (goes (fit plus_not 128 1 1 1 _ (levels-Name _ _) refl) (goes refl (halts
-          (inside plus_not 126 1 2 _ (level_suc plus_not 127 (deeper plus_not 126) 0 2 _ (halts (level_zero plus_not 127 (deeper plus_not 126) 2 _ (looks refl (halts (halts (looks refl (looks refl refl))))))))))))))))))
+    (goes (up plus_not 128 (deeper plus_not 127) 1 0 0 1 _ refl refl (word plus_not 128 (deeper plus_not 127) 0 a refl refl refl (λ e. cc e)))
+    (Loop.stop (BinaryTurn.operated refl (looks refl (goes (fit plus_not 128 1 1 1 _ (levels-Name _ _) refl) (goes refl (halts
+    (inside plus_not 126 1 2 _ (level_suc plus_not 127 (deeper plus_not 126) 0 2 _ (halts (level_zero plus_not 127 (deeper plus_not 126) 2 _ (looks refl (halts (halts (looks refl (looks refl refl))))))))))))))))))
 
 -- `func` is no operand.
 abbrev lambda : List Token
@@ -230,8 +228,8 @@ no_typed_array : expression arrays 128 AS 0 (Stops (record { kind = Unsupported 
 unfolding kind_at place_at refusal
 no_typed_array = top_stop arrays 0 _ (up_stop arrays 128 (deeper arrays 127) 11 0 0 _ refl (level_zero arrays 128 (deeper arrays 127) 0 _
     (looks refl (goes (goes (looks refl (looks refl (goes refl refl))) (Loop.last (part_none arrays 128 (deeper arrays 127) _ _ _ refl)))
-      (Loop.stop (looks refl (goes (fit arrays 128 1 1 1 _ (levels-Name _ _) refl) (goes refl (looks refl (halts
-        (goes (OneOf.found refl) (goes (Loop.last (dotted_none arrays _ 3 (λ e. cc e))) (looks refl refl)))))))))))))
+    (Loop.stop (looks refl (goes (fit arrays 128 1 1 1 _ (levels-Name _ _) refl) (goes refl (looks refl (halts
+    (goes (OneOf.found refl) (goes (Loop.last (dotted_none arrays _ 3 (λ e. cc e))) (looks refl refl)))))))))))))
 
 -- `a(b,)` may have a comma behind its last argument.
 abbrev calls : List Token
@@ -241,13 +239,13 @@ trailing_comma : expression calls 128 AS 0 (Read (e.Call (at_column 1) (e.Name (
 unfolding kind_at place_at
 trailing_comma = top calls 0 5 _ (up calls 128 (deeper calls 127) 11 0 0 5 _ refl refl (level_zero calls 128 (deeper calls 127) 0 _ (looks refl (goes
     (goes (looks refl (looks refl (goes refl refl)))
-      (Loop.on (looks refl (goes (fit calls 128 1 1 1 _ (levels-Name _ _) refl) (goes refl (goes
-        (goes (Loop.on (Item.further (λ e. cc e) (goes
-            (inside calls 126 AS 2 _ (goes (goes (up calls 127 (deeper calls 126) 11 0 2 3 _ refl refl (word calls 127 (deeper calls 126) 2 b refl refl refl (λ e. cc e)))
-              (ternary_none calls 127 (deeper calls 126) _ _ 3 (λ e. cc e))) (Loop.last (cast_none calls 127 (deeper calls 126) _ _ 3 (λ e. cc e)))))
-            (looks refl (goes refl refl))))
-          (Loop.last (Item.closed refl))) (goes (Due.found refl) refl))
-        refl))))
-      (Loop.last (part_none calls 128 (deeper calls 127) _ _ 5 refl))))
+    (Loop.on (looks refl (goes (fit calls 128 1 1 1 _ (levels-Name _ _) refl) (goes refl (goes
+    (goes (Loop.on (Item.further (λ e. cc e) (goes
+    (inside calls 126 AS 2 _ (goes (goes (up calls 127 (deeper calls 126) 11 0 2 3 _ refl refl (word calls 127 (deeper calls 126) 2 b refl refl refl (λ e. cc e)))
+    (ternary_none calls 127 (deeper calls 126) _ _ 3 (λ e. cc e))) (Loop.last (cast_none calls 127 (deeper calls 126) _ _ 3 (λ e. cc e)))))
+    (looks refl (goes refl refl))))
+    (Loop.last (Item.closed refl))) (goes (Due.found refl) refl))
+    refl))))
+    (Loop.last (part_none calls 128 (deeper calls 127) _ _ 5 refl))))
     (Loop.last (test_none calls 128 (deeper calls 127) _ _ 5 (λ e. cc e)))))))
     (λ e. cc e) (λ e. cc e)

@@ -1,18 +1,18 @@
 -- The alternatives of expressions where the next token begins no other, and the levels one by one.
-use Rattle.std.proofs.Common.{◌≡◌, ◌≢◌, ℕ, zero, suc, ◌+◌, ◌-◌, ◌==◌, ◌||◌, List, [], ◌∷◌, Bool, true, false, Option, Some, None, refl, sym, subst, arith}
+use Rattle.std.proofs.Common.{◌≡◌, ◌≢◌, ℕ, zero, suc, ◌-◌, ◌==◌, ◌||◌, List, [], ◌∷◌, Bool, true, false, Option, Some, refl, subst, arith}
 use Rattle.gd_syntax.specs.declared.fault.Place.{Place}
 use Rattle.gd_syntax.specs.declared.token.Token.{Token}
 use Rattle.gd_syntax.specs.declared.token.Kind.{Kind}
-use Rattle.gd_syntax.specs.declared.token.Kind.TheVariants.{Mark as Marked, Name, Int, Text}
+use Rattle.gd_syntax.specs.declared.token.Kind.TheVariants.{Mark as Marked, Name, Text}
 use Rattle.gd_syntax.specs.declared.token.Mark.{Mark}
 use Rattle.gd_syntax.specs.declared.token.Mark.TheVariants as m
 use Rattle.gd_syntax.specs.declared.tree.expr.Expr.{Expr}
 use Rattle.gd_syntax.specs.declared.tree.expr.Expr.TheVariants as e
-use Rattle.gd_syntax.specs.Operators.{TERNARY, AS, OR}
-use Rattle.gd_syntax.specs.Reading.{Outcome, Read, Stops, Reading, ◌>>=◌, Look, looks, Turn, On, Last, Loop, give, either}
+use Rattle.gd_syntax.specs.Operators.{TERNARY, AS}
+use Rattle.gd_syntax.specs.Reading.{Outcome, Read, Reading, ◌>>=◌, Look, looks, Turn, On, Last, Loop, give, either}
 use Rattle.gd_syntax.specs.declared.stops.Sought.TheVariants.{Operand, Node, Other}
 use Rattle.gd_syntax.specs.Refusals.{is_load}
-use Rattle.gd_syntax.specs.TokenReading.{kind_at, mark_at, place_at, refuse, is_plain, plain_name, OneOf}
+use Rattle.gd_syntax.specs.TokenReading.{kind_at, mark_at, refuse, is_plain, plain_name, OneOf}
 use Rattle.gd_syntax.specs.TypeGrammar.{type_name}
 use Rattle.gd_syntax.specs.ExprGrammar.{is_other_operand, is_part, step, node_by, super_by, named, other_by, part, part_by, kind_test_by, test, test_by, ternary_by, cast_by, prefix, negation, binary, level, ternary, cast, form, full, deeper, expression}
 

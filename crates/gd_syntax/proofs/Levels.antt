@@ -1,5 +1,5 @@
 -- How many levels each form has.
-use Rattle.std.proofs.Common.{◌≡◌, ℕ, suc, ◌+◌, max, Bool, Option, List, [], ◌∷◌, ◌++◌, map, rules, arith, refl, ap}
+use Rattle.std.proofs.Common.{◌≡◌, ℕ, suc, max, List, [], ◌∷◌, ◌++◌, map, rules, arith, refl, ap}
 use Rattle.gd_syntax.specs.declared.fault.Place.{Place}
 use Rattle.gd_syntax.specs.declared.tree.type_name.Identifier.{Identifier}
 use Rattle.gd_syntax.specs.declared.tree.type_name.PathText.{PathText}
@@ -9,7 +9,7 @@ use Rattle.gd_syntax.specs.declared.tree.expr.Expr.{Expr, the_lemmas}
 use Rattle.gd_syntax.specs.declared.tree.expr.Expr.TheVariants as e
 use Rattle.gd_syntax.specs.declared.tree.expr.TreeOp.{TreeOp}
 use Rattle.gd_syntax.specs.declared.tree.expr.TreePrefix.{TreePrefix}
-use Rattle.gd_syntax.specs.Levels.{levels, levels_step, most}
+use Rattle.gd_syntax.specs.Levels.{levels, most}
 
 most_map : {A B : Type 0} (f : B → ℕ) (g : A → B) (all : List A) → most (map f (map g all)) ≡ most (map (λ x. f (g x)) all)
 most_map f g [] = refl

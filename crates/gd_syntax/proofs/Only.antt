@@ -1,15 +1,15 @@
 -- No reading of tokens has two outcomes.
-use Rattle.std.proofs.Common.{◌≡◌, ◌≢◌, ℕ, ◌+◌, Bool, true, false, List, [], ◌∷◌, ◌++◌, Option, Some, None, refl, sym, ap, ◌∙◌, subst}
+use Rattle.std.proofs.Common.{◌≡◌, ℕ, ◌+◌, Bool, true, false, List, [], ◌∷◌, ◌++◌, Option, Some, refl, sym, ◌∙◌, subst}
 use Rattle.gd_syntax.specs.declared.fault.Place.{Place}
 use Rattle.gd_syntax.specs.declared.token.Token.{Token}
 use Rattle.gd_syntax.specs.declared.token.Kind.{Kind}
-use Rattle.gd_syntax.specs.declared.token.Kind.TheVariants.{Mark as Marked, Name, Int, Text}
+use Rattle.gd_syntax.specs.declared.token.Kind.TheVariants.{Text}
 use Rattle.gd_syntax.specs.declared.token.Mark.{Mark}
 use Rattle.gd_syntax.specs.declared.token.Mark.TheVariants as m
-use Rattle.gd_syntax.specs.Reading.{Outcome, Read, Stops, Reading, Then, goes, halts, Look, looks, Turn, On, Last, Loop, give, either}
+use Rattle.gd_syntax.specs.Reading.{Outcome, Read, Reading, Then, goes, halts, Look, looks, Turn, Loop, either}
 use Rattle.gd_syntax.specs.declared.stops.Sought.{Sought}
 use Rattle.gd_syntax.specs.declared.stops.Sought.TheVariants.{Other}
-use Rattle.gd_syntax.specs.TokenReading.{is_uid, mark_at, place_at, skip, Due, OneOf, plain_name, identifier, path_text, path_text_by, Item, comma, comma_by, list}
+use Rattle.gd_syntax.specs.TokenReading.{is_uid, place_at, skip, Due, OneOf, plain_name, identifier, path_text, path_text_by, Item, comma_by, list}
 
 abbrev pub Only : {A : Type 0} → Reading A → Type 0
 Only {A} R = (at : ℕ) (p q : Outcome A) → R at p → R at q → p ≡ q

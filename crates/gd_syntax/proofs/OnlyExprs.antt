@@ -1,9 +1,9 @@
 -- No reading of an expression has two outcomes.
-use Rattle.std.proofs.Common.{◌≡◌, ℕ, zero, suc, ◌+◌, ◌-◌, ◌==◌, Bool, true, false, List, [], ◌∷◌, ◌++◌, Option, Some, None, refl}
+use Rattle.std.proofs.Common.{ℕ, zero, suc, ◌-◌, ◌==◌, Bool, true, false, List, [], ◌∷◌, Option, Some, None, refl}
 use Rattle.gd_syntax.specs.declared.fault.Place.{Place}
 use Rattle.gd_syntax.specs.declared.token.Token.{Token}
 use Rattle.gd_syntax.specs.declared.token.Kind.{Kind}
-use Rattle.gd_syntax.specs.declared.token.Kind.TheVariants.{Mark as Marked, Name, Int, Text}
+use Rattle.gd_syntax.specs.declared.token.Kind.TheVariants.{Mark as Marked, Name, Text}
 use Rattle.gd_syntax.specs.declared.token.Mark.{Mark}
 use Rattle.gd_syntax.specs.declared.token.Mark.TheVariants as m
 use Rattle.gd_syntax.specs.declared.tree.expr.Literal.{Literal}
@@ -12,10 +12,10 @@ use Rattle.gd_syntax.specs.declared.tree.expr.TreePrefix.{TreePrefix}
 use Rattle.gd_syntax.specs.declared.tree.expr.Expr.{Expr}
 use Rattle.gd_syntax.specs.Operators.{PREFIX, NOT, OR, TERNARY, AS}
 use Rattle.gd_syntax.specs.Reading.{Reading}
-use Rattle.gd_syntax.specs.declared.stops.Sought.TheVariants.{Operand, Node, LoadPath, Other}
+use Rattle.gd_syntax.specs.declared.stops.Sought.TheVariants.{Node, LoadPath, Other}
 use Rattle.gd_syntax.specs.Refusals.{is_load}
-use Rattle.gd_syntax.specs.TokenReading.{list, place_at, any_name, plain_name, is_plain, literal_of}
-use Rattle.gd_syntax.specs.ExprGrammar.{leaf, paren, array, entry, field_name, field_name_by, field, dict_by, dict, preload, load, step_by, step, node_by, node, super_by, super, named, other_by, operand_by, operand, part_by, part, postfix, kind_test_by, test_by, test, type_test, prefix_by, prefix, operation_by, operation, BinaryTurn, binary, negation_by, negation, level, ternary_by, ternary, cast_by, cast, form, full, deeper, expression}
+use Rattle.gd_syntax.specs.TokenReading.{list, place_at, any_name, plain_name, is_plain}
+use Rattle.gd_syntax.specs.ExprGrammar.{leaf, entry, field_name, field_name_by, field, dict_by, preload, load, step_by, node_by, super_by, named, other_by, operand_by, operand, part_by, postfix, kind_test_by, test_by, type_test, prefix_by, prefix, operation_by, BinaryTurn, binary, negation_by, negation, level, ternary_by, ternary, cast_by, cast, form, deeper, expression}
 use Rattle.gd_syntax.proofs.Only.{Only, only_is, only_then, only_look, only_loop, only_either, only_skip, only_due, only_one, only_path_text, only_list}
 use Rattle.gd_syntax.proofs.OnlyTypes.{only_type_name}
 

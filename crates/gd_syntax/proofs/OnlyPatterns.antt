@@ -1,9 +1,9 @@
 -- No reading of a pattern has two outcomes.
-use Rattle.std.proofs.Common.{◌≡◌, ℕ, zero, suc, ◌+◌, Bool, true, false, List, [], ◌∷◌, ◌++◌, Option, Some, None}
+use Rattle.std.proofs.Common.{ℕ, zero, suc, Bool, true, false, List, [], ◌∷◌, Option, Some, None}
 use Rattle.gd_syntax.specs.declared.fault.Place.{Place}
 use Rattle.gd_syntax.specs.declared.token.Token.{Token}
 use Rattle.gd_syntax.specs.declared.token.Kind.{Kind}
-use Rattle.gd_syntax.specs.declared.token.Kind.TheVariants.{Mark as Marked, Name, Int, Text}
+use Rattle.gd_syntax.specs.declared.token.Kind.TheVariants.{Mark as Marked}
 use Rattle.gd_syntax.specs.declared.token.Mark.{Mark}
 use Rattle.gd_syntax.specs.declared.token.Mark.TheVariants as m
 use Rattle.gd_syntax.specs.declared.tree.expr.Literal.{Literal}
@@ -11,7 +11,7 @@ use Rattle.gd_syntax.specs.declared.tree.pattern.Pattern.{Pattern}
 use Rattle.gd_syntax.specs.Reading.{Reading}
 use Rattle.gd_syntax.specs.declared.stops.Sought.TheVariants.{Other}
 use Rattle.gd_syntax.specs.TokenReading.{place_at, any_name, plain_name, literal_of}
-use Rattle.gd_syntax.specs.PatternGrammar.{more, more_by, items, items_by, rest_by, open_list, names_by, path, key_by, entry_by, entry_pattern, other_pattern_by, pattern_by, pattern_form, pattern}
+use Rattle.gd_syntax.specs.PatternGrammar.{more, more_by, items_by, rest_by, open_list, names_by, path, key_by, entry_by, entry_pattern, other_pattern_by, pattern_by, pattern_form, pattern}
 use Rattle.gd_syntax.proofs.Only.{Only, only_is, only_then, only_look, only_loop, only_skip, only_due, only_one, only_identifier}
 
 module _ (tokens : List Token) where

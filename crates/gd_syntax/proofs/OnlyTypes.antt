@@ -1,5 +1,5 @@
 -- No reading of a type has two outcomes.
-use Rattle.std.proofs.Common.{◌≡◌, ℕ, ◌+◌, List, [], ◌∷◌, ◌++◌, Option, Some, None}
+use Rattle.std.proofs.Common.{ℕ, List, [], ◌∷◌, Option, Some, None}
 use Rattle.gd_syntax.specs.declared.fault.Place.{Place}
 use Rattle.gd_syntax.specs.declared.fault.Form.{Form}
 use Rattle.gd_syntax.specs.declared.token.Token.{Token}

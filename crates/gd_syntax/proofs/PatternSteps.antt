@@ -1,5 +1,5 @@
 -- The alternatives of patterns where the next token begins no other, and the levels one by one.
-use Rattle.std.proofs.Common.{◌≡◌, ◌≢◌, ℕ, zero, suc, List, [], ◌∷◌, Bool, true, false, Option, Some, None, refl}
+use Rattle.std.proofs.Common.{◌≡◌, ◌≢◌, ℕ, zero, suc, List, Bool, false, Option, Some, None, refl}
 use Rattle.gd_syntax.specs.declared.fault.Place.{Place}
 use Rattle.gd_syntax.specs.declared.token.Token.{Token}
 use Rattle.gd_syntax.specs.declared.token.Kind.{Kind}

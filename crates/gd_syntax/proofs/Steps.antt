@@ -1,5 +1,5 @@
 -- A reading, from what the calls that read its parts have answered.
-use Rattle.std.proofs.Common.{◌≡◌, ◌≢◌, ℕ, ◌+◌, ◌<◌, List, [], ◌∷◌, ◌++◌, Bool, true, false, Option, Some, None, Result, Ok, Err, length, get_or, refl, sym, subst, ap, ◌∙◌}
+use Rattle.std.proofs.Common.{◌≡◌, ◌≢◌, ℕ, ◌+◌, ◌<◌, List, Option, Some, Result, Ok, Err, length, get_or, refl, sym, subst, ap}
 use Rattle.std.specs.Result.{IsErrAnd}
 use Rattle.std.proofs.lemmas.Option.{slice_get-get_or}
 use Rattle.gd_syntax.specs.declared.fault.LoadFault.{LoadFault}
@@ -7,11 +7,11 @@ use Rattle.gd_syntax.specs.declared.fault.SolveError.{SolveError}
 use Rattle.gd_syntax.specs.declared.fault.SolveError.TheVariants.{Fault, NoMemory}
 use Rattle.gd_syntax.specs.declared.fault.Place.{Place}
 use Rattle.gd_syntax.specs.declared.token.Kind.{Kind}
-use Rattle.gd_syntax.specs.declared.token.Kind.TheVariants.{Mark as Marked, Name, Int, Text}
+use Rattle.gd_syntax.specs.declared.token.Kind.TheVariants.{Text}
 use Rattle.gd_syntax.specs.declared.token.Mark.{Mark}
 use Rattle.gd_syntax.specs.declared.token.Mark.TheVariants as m
 use Rattle.gd_syntax.specs.declared.token.Token.{Token}
-use Rattle.gd_syntax.specs.Reading.{Outcome, Read, Stops, Reading, Look, looks, Turn, On, Last, Fails, Answers, Gives}
+use Rattle.gd_syntax.specs.Reading.{Outcome, Read, Stops, looks, Turn, Last, Fails, Answers, Gives}
 use Rattle.gd_syntax.specs.declared.stops.Sought.{Sought}
 use Rattle.gd_syntax.specs.TokenReading.{kind_of, place_of, kind_at, mark_at, place_at, refuse, fits, comma, comma_by, path_text, path_text_by}
 

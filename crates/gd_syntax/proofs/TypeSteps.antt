@@ -1,11 +1,11 @@
 -- The alternatives of types where the next token begins no other.
-use Rattle.std.proofs.Common.{◌≡◌, ◌≢◌, ℕ, ◌+◌, List, [], ◌∷◌, Bool, true, false, Option, Some, None, refl}
+use Rattle.std.proofs.Common.{◌≡◌, ◌≢◌, ℕ, List, Option, Some, None, refl}
 use Rattle.gd_syntax.specs.declared.fault.Place.{Place}
 use Rattle.gd_syntax.specs.declared.token.Token.{Token}
 use Rattle.gd_syntax.specs.declared.token.Mark.{Mark}
 use Rattle.gd_syntax.specs.declared.token.Mark.TheVariants as m
 use Rattle.gd_syntax.specs.declared.tree.type_name.TypeName.{TypeName}
-use Rattle.gd_syntax.specs.Reading.{Outcome, Read, Stops, Reading, Look, looks, Turn, On, Last}
+use Rattle.gd_syntax.specs.Reading.{Outcome, Read, looks, Turn, Last}
 use Rattle.gd_syntax.specs.declared.stops.Sought.TheVariants.{Other}
 use Rattle.gd_syntax.specs.TokenReading.{mark_at, place_at}
 use Rattle.gd_syntax.specs.TypeGrammar.{dotted, dotted_by, bracket_form, type_name, result_by, result_type}

@@ -1,10 +1,10 @@
 -- The grammar of expressions, one level per precedence.
-use Rattle.std.specs.Prelude.{◌≡◌, ◌≢◌, ℕ, zero, suc, ◌+◌, ◌-◌, nat_le, ◌==◌, Bool, true, false, not, ◌&&◌, ◌||◌, if◌then◌else◌, List, [], ◌∷◌, ◌++◌, Option, Some, None}
+use Rattle.std.specs.Prelude.{◌≡◌, ◌≢◌, ℕ, zero, suc, ◌+◌, ◌-◌, nat_le, ◌==◌, Bool, true, false, ◌||◌, if◌then◌else◌, List, [], ◌∷◌, ◌++◌, Option, Some, None}
 use Rattle.gd_syntax.specs.declared.fault.Place.{Place}
 use Rattle.gd_syntax.specs.declared.fault.FaultKind.TheVariants.{NestTooDeep}
 use Rattle.gd_syntax.specs.declared.token.Token.{Token}
 use Rattle.gd_syntax.specs.declared.token.Kind.{Kind}
-use Rattle.gd_syntax.specs.declared.token.Kind.TheVariants.{Mark as Marked, Name, Int, Text}
+use Rattle.gd_syntax.specs.declared.token.Kind.TheVariants.{Mark as Marked, Name, Text}
 use Rattle.gd_syntax.specs.declared.token.Mark.{Mark}
 use Rattle.gd_syntax.specs.declared.token.Mark.TheVariants as m
 use Rattle.gd_syntax.specs.declared.tree.type_name.Identifier.{Identifier}
@@ -16,8 +16,7 @@ use Rattle.gd_syntax.specs.declared.tree.expr.Expr.{Expr}
 use Rattle.gd_syntax.specs.declared.tree.expr.Expr.TheVariants as e
 use Rattle.gd_syntax.specs.Levels.{levels}
 use Rattle.gd_syntax.specs.Operators.{PREFIX, NOT, OR, TERNARY, AS, level_of, operator_of, prefix_of, is_not}
-use Rattle.gd_syntax.specs.Reading.{Outcome, Read, Stops, Reading, Then, ◌>>=◌, ◌>>◌, give, either, Look, Turn, On, Last, Loop}
-use Rattle.gd_syntax.specs.declared.stops.Sought.{Sought}
+use Rattle.gd_syntax.specs.Reading.{Outcome, Read, Stops, Reading, ◌>>=◌, ◌>>◌, give, either, Look, Turn, On, Last, Loop}
 use Rattle.gd_syntax.specs.declared.stops.Sought.TheVariants.{Operand, Node, LoadPath, Other}
 use Rattle.gd_syntax.specs.Refusals.{is_load}
 use Rattle.gd_syntax.specs.TokenReading.{any_name, plain_name, is_plain, literal_of, kind_at, mark_at, place_at, fault_at, skip, refuse, refusal_at, Due, OneOf, path_text, fits, list}

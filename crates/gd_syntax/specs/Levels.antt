@@ -1,7 +1,5 @@
 -- How many levels a tree has.
-use Rattle.std.specs.Prelude.{ℕ, zero, suc, max, Bool, Option, Some, None, List, [], ◌∷◌, map}
-use Rattle.gd_syntax.specs.declared.tree.type_name.Identifier.{Identifier}
-use Rattle.gd_syntax.specs.declared.tree.expr.Literal.{Literal}
+use Rattle.std.specs.Prelude.{ℕ, suc, max, List, [], ◌∷◌, map}
 use Rattle.gd_syntax.specs.declared.tree.expr.Expr.{Expr}
 use Rattle.gd_syntax.specs.declared.tree.expr.Expr.TheOpen.{Expr-F}
 use Rattle.gd_syntax.specs.declared.tree.expr.Expr.TheFolds.{fold-Expr}

@@ -1,5 +1,5 @@
 -- Why a reading stops at a token: forms of the language that are not taken have names of their own.
-use Rattle.std.specs.Prelude.{ℕ, Bool, true, false, ◌||◌, if◌then◌else◌, List, codes, bytes_eq, Option, Some, None}
+use Rattle.std.specs.Prelude.{ℕ, Bool, ◌||◌, if◌then◌else◌, List, codes, bytes_eq, Option, Some, None}
 use Rattle.gd_syntax.specs.declared.fault.FaultKind.{FaultKind}
 use Rattle.gd_syntax.specs.declared.fault.FaultKind.TheVariants.{Syntax, Unsupported}
 use Rattle.gd_syntax.specs.declared.fault.Form.{Form}
@@ -7,8 +7,7 @@ use Rattle.gd_syntax.specs.declared.fault.Form.TheVariants as form
 use Rattle.gd_syntax.specs.declared.stops.Sought.{Sought}
 use Rattle.gd_syntax.specs.declared.stops.Sought.TheVariants.{Operand, Node, LoadPath, Parameter, VarType, VarEnd, StaticFunc, AnnotationName, Other}
 use Rattle.gd_syntax.specs.declared.token.Kind.{Kind}
-use Rattle.gd_syntax.specs.declared.token.Kind.TheVariants.{Mark as Marked, Name, Int, Text}
-use Rattle.gd_syntax.specs.declared.token.Mark.{Mark}
+use Rattle.gd_syntax.specs.declared.token.Kind.TheVariants.{Mark as Marked, Name, Text}
 use Rattle.gd_syntax.specs.declared.token.Mark.TheVariants as m
 
 abbrev pub is_float_word : List ℕ → Bool

@@ -1,5 +1,5 @@
 -- The grammar of types.
-use Rattle.std.specs.Prelude.{◌≡◌, ℕ, ◌+◌, Bool, true, false, ◌&&◌, if◌then◌else◌, List, [], ◌∷◌, ◌++◌, codes, bytes_eq, Option, Some, None}
+use Rattle.std.specs.Prelude.{◌≡◌, ℕ, if◌then◌else◌, List, [], ◌∷◌, ◌++◌, codes, bytes_eq, Option, Some, None}
 use Rattle.gd_syntax.specs.declared.fault.Place.{Place}
 use Rattle.gd_syntax.specs.declared.fault.FaultKind.TheVariants.{Unsupported}
 use Rattle.gd_syntax.specs.declared.fault.Form.{Form}
@@ -9,10 +9,10 @@ use Rattle.gd_syntax.specs.declared.token.Mark.{Mark}
 use Rattle.gd_syntax.specs.declared.token.Mark.TheVariants as m
 use Rattle.gd_syntax.specs.declared.tree.type_name.TypeName.{TypeName}
 use Rattle.gd_syntax.specs.declared.tree.type_name.TypeName.TheVariants as t
-use Rattle.gd_syntax.specs.Reading.{Outcome, Read, Stops, Reading, Then, ◌>>=◌, ◌>>◌, give, Look, Turn, On, Last, Loop}
+use Rattle.gd_syntax.specs.Reading.{Stops, Reading, ◌>>=◌, ◌>>◌, give, Look, Turn, On, Last, Loop}
 use Rattle.gd_syntax.specs.declared.stops.Sought.{Sought}
 use Rattle.gd_syntax.specs.declared.stops.Sought.TheVariants.{Other}
-use Rattle.gd_syntax.specs.TokenReading.{any_name, plain_name, mark_at, place_at, fault_at, skip, OneOf}
+use Rattle.gd_syntax.specs.TokenReading.{plain_name, mark_at, place_at, fault_at, skip, OneOf}
 
 -- the types that no bracket may follow, as each would have the type of its elements
 abbrev pub element_form : List (List ℕ) → Option Form

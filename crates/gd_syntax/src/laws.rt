@@ -13,5 +13,4 @@ pub fn readings_are_unique()
     ensures results { (tokens : List Token) (at : ℕ) → HasOneAtMost (result_type tokens at) }
     ensures patterns { (tokens : List Token) (room at : ℕ) → HasOneAtMost (pattern tokens room at) }
     ensures expressions { (tokens : List Token) (room level at : ℕ) → HasOneAtMost (expression tokens room level at) }
-{
-}
+{}

@@ -1,4 +1,4 @@
-use Rattle.std.proofs.Common.{◌≡◌, ◌∙◌, sym, string_bytes}
+use Rattle.std.proofs.Common.{◌∙◌, sym, string_bytes}
 use Rattle.std.proofs.lemmas.Str.{IsUtf8-string_bytes}
 use Rattle.gd_syntax.proofs.Texts.{chars_alike}
 use Rattle.gd_syntax.proofs.name.TextPartialEq.eq.Goals as goal
