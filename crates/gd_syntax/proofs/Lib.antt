@@ -2,3 +2,13 @@ pub mod Crossing
 mod Segments
 mod Turns
 mod Texts
+pub mod Only
+pub mod OnlyTypes
+pub mod OnlyPatterns
+pub mod OnlyExprs
+pub mod Levels
+pub mod Steps
+pub mod TypeSteps
+pub mod ExprSteps
+pub mod PatternSteps
+pub mod ExprExamples

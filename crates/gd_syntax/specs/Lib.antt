@@ -10,3 +10,11 @@ pub mod Spellings
 pub mod Layout
 pub mod Header
 pub mod Longest
+pub mod Reading
+pub mod Refusals
+pub mod TokenReading
+pub mod Levels
+pub mod TypeGrammar
+pub mod Operators
+pub mod ExprGrammar
+pub mod PatternGrammar

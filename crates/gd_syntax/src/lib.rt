@@ -4,12 +4,22 @@
 
 mod fault;
 mod first;
+mod laws;
 mod name;
 mod path;
+mod stops;
 mod token;
+mod tree;
 
 pub use fault::{FaultKind, Form, LoadFault, Place, SolveError};
 pub use first::{FirstItem, FirstPrint, FirstProduct, FirstScript, FirstSum, SumOp};
+pub use laws::readings_are_unique;
 pub use name::{Name, Text};
 pub use path::{PathError, ResPath};
+pub use stops::{Sought, refusal};
 pub use token::{KEYWORDS, Kind, Mark, SIGNS, Token};
+pub use tree::{
+    Annotation, AssignOp, Base, BaseRoot, Const, Declared, Enum, EnumItem, Expr, Func, Head,
+    Identifier, Literal, Member, Param, PathText, Pattern, Script, Signal, Simple, Stmt, TreeOp,
+    TreePrefix, TypeName, Var,
+};

@@ -1,0 +1,16 @@
+// Trees of the language. A production of the grammar with alternatives is an enum, another is a struct.
+
+mod expr;
+mod member;
+mod pattern;
+mod statement;
+mod type_name;
+
+pub use expr::{Expr, Literal, TreeOp, TreePrefix};
+pub use member::{
+    Annotation, Base, BaseRoot, Const, Enum, EnumItem, Func, Head, Member, Param, Script, Signal,
+    Var,
+};
+pub use pattern::Pattern;
+pub use statement::{AssignOp, Simple, Stmt};
+pub use type_name::{Declared, Identifier, PathText, TypeName};
