@@ -50,30 +50,54 @@ quoted_len quote count escaped (c ∷ text) =
     if not escaped && repeats quote count (c ∷ text) then Some count
     else option_map (λ n. suc n) (quoted_len quote count (not escaped && c == 92) text)
 
--- behind a string; behind one that nothing closes there is no name
-abbrev pub behind_string : ℕ → Option ℕ → (ℕ → Option Global) → Option Global
-behind_string count None behind = None
-behind_string count (Some n) behind = behind (count + n - 1)
+-- what stands at a place
+pub data Part : Type 0 where
+  line_end : ℕ → Part
+  -- a comment, a string, a word or another character
+  passed : ℕ → Part
+  -- the word `class_name`
+  keyword : Part
+  -- a string that nothing closes
+  unended : Part
 
-abbrev pub skip_string : ℕ → List ℕ → (ℕ → Option Global) → Option Global
-skip_string quote text behind =
-    let count = if repeats quote 3 text then 3 else 1 in
-    behind_string count (quoted_len quote count false (drop count text)) behind
+abbrev pub string_part : ℕ → Option ℕ → Part
+string_part count None = unended
+string_part count (Some n) = passed (count + n)
 
--- The name in the text from this place on, where n characters are left of a word, a string, a comment or a line end, and
--- behind these a line may begin.
+abbrev pub quotes_len : ℕ → List ℕ → ℕ
+quotes_len quote text = if repeats quote 3 text then 3 else 1
+
+-- the string that begins the text
+abbrev pub string_at : ℕ → List ℕ → Part
+string_at quote text = string_part (quotes_len quote text) (quoted_len quote (quotes_len quote text) false (drop (quotes_len quote text) text))
+
+abbrev pub word_part : List ℕ → Part
+word_part word = if is_class_name word then keyword else passed (length word)
+
+unfoldable pub part_at : List ℕ → Part
+part_at [] = unended
+part_at (c ∷ text) =
+    if nat_lt 0 (line_end_len (c ∷ text)) then line_end (line_end_len (c ∷ text))
+    else if c == 35 then passed (suc (line_len text))
+    else if is_quote c then string_at c (c ∷ text)
+    else if is_xid_continue c then word_part (word_of (c ∷ text))
+    else passed 1
+
+-- The name in a text with this part in front, where `behind` gives the name in the text so many characters behind its
+-- first, at the start of a line or within one.
+abbrev pub name_in : Part → Place → List ℕ → (Bool → ℕ → Option Global) → Option Global
+name_in (line_end n) place text behind = behind true (n - 1)
+name_in (passed n) place text behind = behind false (n - 1)
+name_in keyword place text behind = name_behind (past_all place (take (length (codes "class_name")) text)) (drop (length (codes "class_name")) text)
+name_in unended place text behind = None
+
+-- the name in the text from this place on, where n characters are left of the part before
 unfoldable pub global_from : Bool → ℕ → Place → List ℕ → Option Global
 global_from starts n place [] = None
 global_from starts (suc n) place (c ∷ text) = global_from starts n (past place c) text
 global_from starts zero place (c ∷ text) =
     if starts && not (is_header_line (c ∷ text)) then None
-    else if nat_lt 0 (line_end_len (c ∷ text)) then global_from true (line_end_len (c ∷ text) - 1) (past place c) text
-    else if c == 35 then global_from false (line_len text) (past place c) text
-    else if is_quote c then skip_string c (c ∷ text) (λ n. global_from false n (past place c) text)
-    else if is_xid_continue c then
-    (if is_class_name (word_of (c ∷ text)) then name_behind (past_all place (word_of (c ∷ text))) (drop (length (word_of (c ∷ text))) (c ∷ text))
-    else global_from false (length (word_of (c ∷ text)) - 1) (past place c) text)
-    else global_from false 0 (past place c) text
+    else name_in (part_at (c ∷ text)) place (c ∷ text) (λ starts n. global_from starts n (past place c) text)
 
 -- the global name of a file; behind a bad byte there is no text
 abbrev pub global_of : List ℕ → Option Global

@@ -1,7 +1,6 @@
-//! The tokens of a script, and the global name in its header.
+//! The tokens of a script.
 #![tactic(auto)]
 
-mod cursor;
 mod found;
 mod laws;
 mod layout;
@@ -18,4 +17,7 @@ mod texts;
 mod words;
 
 pub use laws::{longest_digits, longest_sign, longest_word, one_answer};
-pub use texts::tokens;
+pub use reader::past;
+pub use scan::is_blank;
+pub use texts::{tokens, valid_front};
+pub use words::{is_quote, starts_word};

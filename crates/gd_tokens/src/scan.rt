@@ -10,7 +10,7 @@ use crate::strings::{line_end_len, string};
 use crate::words::{is_quote, starts_word, word};
 use std::alloc::{AllocError, Global};
 
-fn is_blank(c: char) -> bool
+pub fn is_blank(c: char) -> bool
     ensures { result ≡ is_blank c }
 {
     c == ' ' || c == '\t'

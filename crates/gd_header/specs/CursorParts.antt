@@ -1,5 +1,5 @@
 -- A text that is read a character at a time.
-use Rattle.std.specs.Prelude.{◌≡◌, ℕ, List, [], ◌∷◌, Option, Some, None}
+use Rattle.std.specs.Prelude.{◌≡◌, ℕ, List, [], ◌∷◌, drop, Option, Some, None}
 use Rattle.gd_syntax.specs.declared.fault.Place.{Place}
 use Rattle.gd_syntax.specs.Layout.{past}
 
@@ -12,3 +12,7 @@ IsNext old text (Some c) new rest = (text ≡ c ∷ rest) × (new ≡ past old c
 abbrev pub IsSplit : List ℕ → Option (ℕ × List ℕ) → Type 0
 IsSplit text None = text ≡ []
 IsSplit text (Some split) = text ≡ split.0 ∷ split.1
+
+-- what is left behind some characters
+abbrev pub IsEnd : List ℕ → List ℕ → Type 0
+IsEnd text end = (n : ℕ) × (end ≡ drop n text)

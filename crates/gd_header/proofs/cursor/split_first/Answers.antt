@@ -1,7 +1,7 @@
 use Rattle.std.proofs.Common.{◌∙◌, sym, ap, ◌∷◌}
 use Rattle.std.specs.Str.{chars}
 use Rattle.std.proofs.lemmas.Str.{chars_past_char}
-use Rattle.gd_tokens.proofs.cursor.split_first.Goals as goal
+use Rattle.gd_header.proofs.cursor.split_first.Goals as goal
 
 pub returns-clause-value : goal.returns-clause-value
 returns-clause-value c =

@@ -1,0 +1,4 @@
+mod Fronts
+mod Globals
+mod Seams
+mod Skips

@@ -1,0 +1,2 @@
+pub mod CursorParts
+pub mod Parts
