@@ -6,7 +6,12 @@ use crate::shared_core::SharedCore;
 use stage_core::StageWork;
 use turn_lock::{Pass, TurnLock};
 
+mod files;
+mod looks;
 mod passes;
+mod raising;
+mod requests;
+mod tasks;
 
 /// What a thread enters a cache with. It has no bytes.
 pub type CachePass<O> = Pass<SharedCore<O>>;

@@ -2,7 +2,13 @@
 #![tactic(auto)]
 
 mod cache;
+mod errors;
+mod gate;
+mod job;
 mod shared_core;
 
 pub use cache::{CachePass, ScriptCache};
+pub use errors::{CacheAnswerError, ClaimError, NoRaise, RequestError, StatusError};
+pub use gate::{Gate, NoGate};
+pub use job::{Finished, Job, Raised};
 pub use shared_core::SharedCore;
