@@ -1,0 +1,3 @@
+pub mod ClaimErrors
+pub mod Claims
+pub mod Logged

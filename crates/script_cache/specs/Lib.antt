@@ -1,4 +1,4 @@
+pub mod ClaimErrors
 pub mod Entries
-pub mod Errors
 pub mod Files
 pub mod Tasks

@@ -1,8 +1,6 @@
 //! Why a call of the cache gives nothing.
 ghost use Rattle.std.specs.Prelude.{◌≡◌};
-ghost use Rattle.script_cache.specs.Errors.{claim_error, answer_error};
-
-use stage_core::AnswerError;
+ghost use Rattle.script_cache.specs.ClaimErrors.{claim_error};
 
 /// Why nothing was requested.
 #[derive(Clone, Copy, Debug, PartialEq, Eq)]
@@ -66,17 +64,6 @@ impl From<NoRaise> for ClaimError {
             NoRaise::AllDone => ClaimError::AllDone,
             NoRaise::NothingReady => ClaimError::NothingReady,
             NoRaise::NoMemory => ClaimError::NoMemory,
-        }
-    }
-}
-
-impl From<AnswerError> for CacheAnswerError {
-    ghost from_gives = { λ none e. e ≡ answer_error none };
-
-    fn from(none: AnswerError) -> Self {
-        match none {
-            AnswerError::Unfinished => CacheAnswerError::Unfinished,
-            AnswerError::NoMemory => CacheAnswerError::NoMemory,
         }
     }
 }

@@ -54,7 +54,8 @@ impl<W: StageWork> ScriptCache<W> {
         ensures seen { IsPrefix (seen_by pass.old) (seen_by pass.new) }
         ensures answer { IfOk result (λ answer. IsAnswerAt W.Out.StageOut (W.project self.now.work) path.now (seen_by pass.new) answer) }
         ensures unfinished { result ≡ Err CacheAnswerError.Unfinished → IsUnfinishedAt W.Out.StageOut (W.project self.now.work) path.now (seen_by pass.new) }
-        ensures looked { result ≢ Err CacheAnswerError.NoSuchFile → result ≢ Err CacheAnswerError.Held → HasMade (W.project self.now.work) [] pass.old pass.new × (lost_by pass.new ≡ lost_by pass.old) }
+        ensures looked { result ≢ Err CacheAnswerError.NoSuchFile → result ≢ Err CacheAnswerError.Held → HasMade (W.project self.now.work) [] pass.old pass.new }
+        ensures unlost { result ≢ Err CacheAnswerError.Held → lost_by pass.new ≡ lost_by pass.old }
         ensures no_file { (result ≡ Err CacheAnswerError.NoSuchFile) ↔ HasNoFile W.Out.StageOut (W.project self.now.work) path.now }
         ensures untouched { result ≡ Err CacheAnswerError.NoSuchFile → pass.new ≡ pass.old }
         ensures held { result ≡ Err CacheAnswerError.Held → IsHeldOut self.now.lock pass.old pass.new }

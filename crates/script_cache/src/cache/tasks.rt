@@ -3,7 +3,7 @@ ghost use Rattle.std.specs.Prelude.{◌≡◌, ◌≢◌, ◌≤◌, ℕ, true, 
 ghost use mathlib.Core.List.{IsPrefix};
 ghost use Rattle.stage_core.specs.Begins.{Begins};
 ghost use Rattle.stage_core.specs.Log.{Publishes, GivesBack};
-ghost use Rattle.stage_core.specs.Machine.{claimed, given_back, outcomes, is_claimed, IsReady};
+ghost use Rattle.stage_core.specs.Machine.{claimed, given_back, outcomes, is_claimed, HoldsValue, IsReady};
 ghost use Rattle.turn_lock.specs.Passes.{seen_by, lost_by};
 ghost use Rattle.script_cache.specs.Entries.{AreAllDone, IsCachePass, IsHeldOut, IsTaskOfPass, HasMade, HasClaimed, HasGivenBack, FindsAllDone, FindsNothing};
 
@@ -65,9 +65,7 @@ impl<W: StageWork> ScriptCache<W> {
         turn.leave();
         match found {
             Ok(job) => Ok(job),
-            Err(NoRaise::AllDone) => Err(ClaimError::AllDone),
-            Err(NoRaise::NothingReady) => Err(ClaimError::NothingReady),
-            Err(NoRaise::NoMemory) => Err(ClaimError::NoMemory),
+            Err(none) => Err(ClaimError::from(none)),
         }
     }
 
@@ -79,6 +77,7 @@ impl<W: StageWork> ScriptCache<W> {
     ) -> Result<Finished<W::Out>, Job<W::Out>>
         requires { job.project ≡ W.project self.now.work }
         ensures done { IfOk result (λ done. done.task ≡ job) }
+        ensures value { IfOk result (λ done. HoldsValue W.Out.StageOut (W.project self.now.work) job.file job.stage done.outcome) }
         ensures back { IfErr result (λ back. back ≡ job) }
     {
         let Job { claim, needs } = job;
