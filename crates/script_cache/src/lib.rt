@@ -2,10 +2,15 @@
 #![tactic(auto)]
 
 mod cache;
+mod crossing;
 mod errors;
 mod gate;
 mod job;
+#[cfg(test)]
+mod sample;
 mod shared_core;
+#[cfg(test)]
+mod tests;
 
 pub use cache::{CachePass, ScriptCache};
 pub use errors::{CacheAnswerError, ClaimError, NoRaise, RequestError, StatusError};

@@ -14,10 +14,7 @@ use stage_core::{Core, NoClaim, StageOut, StageWork};
 use std::alloc::{AllocError, Global};
 
 /// Claims a task. Without memory for its needs it is given back.
-pub(super) fn claim_job<O: StageOut>(
-    alloc: Global,
-    core: &mut Core<O>,
-) -> Result<Job<O>, NoRaise>
+pub(super) fn claim_job<O: StageOut>(alloc: Global, core: &mut Core<O>) -> Result<Job<O>, NoRaise>
     ensures project { core.new.project ≡ core.old.project }
     ensures grows { Begins core.old.log core.new.log }
     ensures task { IfOk result (λ job. IsReady O.StageOut core.old.log core.old.in_progress job.file job.stage × (core.new ≡ claimed core.old job.file job.stage)) }
@@ -70,18 +67,17 @@ impl<W: StageWork> ScriptCache<W> {
     }
 
     /// The task's outcome. It takes no turn. Without memory the job comes back.
-    pub fn compute(
-        &self,
-        alloc: Global,
-        job: Job<W::Out>,
-    ) -> Result<Finished<W::Out>, Job<W::Out>>
+    pub fn compute(&self, alloc: Global, job: Job<W::Out>) -> Result<Finished<W::Out>, Job<W::Out>>
         requires { job.project ≡ W.project self.now.work }
         ensures done { IfOk result (λ done. done.task ≡ job) }
         ensures value { IfOk result (λ done. HoldsValue W.Out.StageOut (W.project self.now.work) job.file job.stage done.outcome) }
         ensures back { IfErr result (λ back. back ≡ job) }
     {
         let Job { claim, needs } = job;
-        match self.work.compute(alloc, claim.file(), claim.stage(), &needs) {
+        match self
+            .work
+            .compute(alloc, claim.file(), claim.stage(), &needs)
+        {
             Ok(outcome) => Ok(Finished { claim, outcome }),
             Err(AllocError) => Err(Job { claim, needs }),
         }

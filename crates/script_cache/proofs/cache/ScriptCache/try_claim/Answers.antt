@@ -25,7 +25,7 @@ pub returns-in-Ok-found-clause-job : goal.returns-in-Ok-found-clause-job
 returns-in-Ok-found-clause-job g c = record { its_project = search rules; seen = begins_same _ _ (search rules) }
 
 pub returns-in-Err-clause-all_done : goal.returns-in-Err-clause-all_done
-returns-in-Err-clause-all_done g c e = 
+returns-in-Err-clause-all_done g c e =
     let same : claim_error c.in-Err.none ≡ claim_error AllDone = cc in
     let is : c.claim_job-found.result ≡ Err AllDone = c.in-Err.is ∙ ap Err (claim_error_tells _ _ same) in
     let d = c.claim_job-found.ensures.all_done is in
@@ -42,7 +42,7 @@ returns-in-Err-clause-all_done g c e =
     }
 
 pub returns-in-Err-clause-nothing_ready : goal.returns-in-Err-clause-nothing_ready
-returns-in-Err-clause-nothing_ready g c e = 
+returns-in-Err-clause-nothing_ready g c e =
     let same : claim_error c.in-Err.none ≡ claim_error NothingReady = cc in
     let is : c.claim_job-found.result ≡ Err NothingReady = c.in-Err.is ∙ ap Err (claim_error_tells _ _ same) in
     let d = c.claim_job-found.ensures.nothing_ready is in
@@ -60,18 +60,22 @@ returns-in-Err-clause-nothing_ready g c e =
     }
 
 pub returns-in-Err-clause-no_memory : goal.returns-in-Err-clause-no_memory
-returns-in-Err-clause-no_memory g c e = 
+returns-in-Err-clause-no_memory g c e =
     let same : claim_error c.in-Err.none ≡ claim_error NoMemory = cc in
     let is : c.claim_job-found.result ≡ Err NoMemory = c.in-Err.is ∙ ap Err (claim_error_tells _ _ same) in
     let d = c.claim_job-found.ensures.no_memory is in
     record {
       file = d.0;
       stage = d.1;
-      claimed = record { before = c.value.result.now.core; ready = d.2; entry = record {
-        its_project = search rules;
-        seen = search rules;
-        log = search rules;
-        in_progress = search rules;
-        splits = search rules;
-      } };
+      claimed = record {
+        before = c.value.result.now.core;
+        ready = d.2;
+        entry = record {
+          its_project = search rules;
+          seen = search rules;
+          log = search rules;
+          in_progress = search rules;
+          splits = search rules;
+        };
+      };
     }
