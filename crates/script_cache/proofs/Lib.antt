@@ -1,3 +1,4 @@
 pub mod ClaimErrors
 pub mod Claims
 pub mod Logged
+pub mod Sharing
