@@ -7,7 +7,7 @@ use Rattle.stage_core.specs.CoreState.{Task}
 use Rattle.stage_core.specs.Log.{State, Event, Requests, Claims, Publishes, GivesBack}
 use Rattle.stage_core.specs.declared.log.Entry.{Entry}
 use Rattle.stage_core.specs.declared.log.OutcomeValue.{OutcomeValue}
-use Rattle.stage_core.specs.Machine.{run, outcomes, is_done_at, is_requested, IsKnown, IsReady, HoldsValue}
+use Rattle.stage_core.specs.Machine.{run, outcomes, is_claimed, is_done_at, is_requested, IsKnown, IsReady, HoldsValue}
 use Rattle.turn_lock.specs.declared.lock.Pass.{Pass}
 use Rattle.turn_lock.specs.declared.lock.TurnLock.{TurnLock}
 use Rattle.turn_lock.specs.Passes.{IsPassOf, LosesTake, seen_by, left_by, splits_of}
@@ -73,11 +73,16 @@ module _ {O P : Type 0} (g : Ghosts O P) (project : P) where
     pub unfinished : AreAllDone g before.log → ⊥
     pub entry : IsEntry project before [] p q
 
-  -- one entry claimed a task that was ready, and gave it back
+  -- One entry claimed a task that was ready, and gave it back. By the log that the pass has then seen and the tasks under way
+  -- that it has left, the task is ready again, and its first claim is in that log
   pub record HasGivenBack (p q : Pass (SharedCore O P) P (Entry O) (List ℕ)) : Type 0 where
     pub file : ℕ
     pub stage : ℕ
     pub claimed : HasClaimed file stage (GivesBack file stage ∷ []) p q
+    pub logged : is_claimed (seen_by q) file stage ≡ true
+    pub in_progress : List ℕ
+    pub left : left_by q ≡ Some in_progress
+    pub ready_again : IsReady g (seen_by q) in_progress file stage
 
   -- one entry claimed the task, and a second one published its value
   pub record HasRaised (file stage : ℕ) (p q : Pass (SharedCore O P) P (Entry O) (List ℕ)) : Type 0 where

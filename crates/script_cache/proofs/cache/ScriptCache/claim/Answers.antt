@@ -1,5 +1,7 @@
-use Rattle.std.proofs.Common.{rules}
+use Rattle.std.proofs.Common.{rules, subst}
 use Rattle.script_cache.proofs.Claims.{claimed_job, job_of_pass}
+use Rattle.stage_core.specs.Machine.{IsReady}
+use Rattle.script_cache.proofs.Again.{ready_again, given_back_logged}
 use Rattle.script_cache.proofs.cache.ScriptCache.claim.Goals as goal
 
 pub returns-clause-claimed : goal.returns-clause-claimed
@@ -56,4 +58,8 @@ returns-clause-no_memory g c is =
           splits = search rules;
         };
       };
+      logged = given_back_logged g.W.Out.StageOut c.value.result.now.core c.claim_job-found.new.core _ d.0 d.1 d.3 (search rules);
+      in_progress = c.claim_job-found.new.core.in_progress;
+      left = search rules;
+      ready_again = subst (λ l. IsReady g.W.Out.StageOut l c.claim_job-found.new.core.in_progress d.0 d.1) (search rules) (ready_again g.W.Out.StageOut c.value.result.now.core c.claim_job-found.new.core d.0 d.1 d.3 d.2);
     }

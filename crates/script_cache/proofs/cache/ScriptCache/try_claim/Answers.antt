@@ -1,8 +1,10 @@
-use Rattle.std.proofs.Common.{rules, Err, ap, ◌≡◌, ◌∙◌}
+use Rattle.std.proofs.Common.{rules, subst, Err, ap, ◌≡◌, ◌∙◌}
 use Rattle.script_cache.specs.declared.errors.NoRaise.TheVariants.{AllDone, NothingReady, NoMemory}
 use Rattle.script_cache.specs.ClaimErrors.{claim_error}
 use Rattle.script_cache.proofs.ClaimErrors.{claim_error_tells}
 use Rattle.script_cache.proofs.Logged.{claim_logged, begins_same}
+use Rattle.stage_core.specs.Machine.{IsReady}
+use Rattle.script_cache.proofs.Again.{ready_again, given_back_logged}
 use Rattle.script_cache.proofs.cache.ScriptCache.try_claim.Goals as goal
 
 pub returns-in-Ok-found-clause-claimed : goal.returns-in-Ok-found-clause-claimed
@@ -78,4 +80,8 @@ returns-in-Err-clause-no_memory g c e =
           splits = search rules;
         };
       };
+      logged = given_back_logged g.W.Out.StageOut c.value.result.now.core c.claim_job-found.new.core _ d.0 d.1 d.3 (search rules);
+      in_progress = c.claim_job-found.new.core.in_progress;
+      left = search rules;
+      ready_again = subst (λ l. IsReady g.W.Out.StageOut l c.claim_job-found.new.core.in_progress d.0 d.1) (search rules) (ready_again g.W.Out.StageOut c.value.result.now.core c.claim_job-found.new.core d.0 d.1 d.3 d.2);
     }
