@@ -1,0 +1,40 @@
+-- What an entry that claims leaves to its pass.
+use Rattle.std.proofs.Common.{◌≡◌, ◌∙◌, ℕ, ◌<◌, List, [], Some, Result, Ok, Err, length, ap, sym, arith}
+use Rattle.std.specs.Result.{IfOk}
+use mathlib.Core.List.{IsPrefix}
+use Rattle.stage_core.specs.declared.work.StageOut.{Ghosts}
+use Rattle.stage_core.specs.declared.log.Entry.{Entry}
+use Rattle.stage_core.specs.CoreState.{Task}
+use Rattle.stage_core.specs.Log.{State, Event}
+use Rattle.stage_core.specs.Machine.{outcomes, claimed, IsReady}
+use Rattle.stage_core.proofs.Logs.{begins_from_prefix}
+use Rattle.turn_lock.specs.declared.lock.Pass.{Pass}
+use Rattle.turn_lock.specs.Passes.{seen_by, left_by, splits_of}
+use Rattle.script_cache.specs.declared.errors.NoRaise.{NoRaise}
+use Rattle.script_cache.specs.declared.shared_core.SharedCore.{SharedCore}
+use Rattle.script_cache.specs.Entries.{HasClaimed, IsTaskOfPass}
+use Rattle.script_cache.proofs.Logged.{begins_same, outcomes_grow}
+
+module _ {O P : Type 0} (g : Ghosts O P) (project : P) (p q : Pass (SharedCore O P) P (Entry O) (List ℕ)) where
+  -- the core was `before` and is `after`
+  pub claimed_job : (r : Result (Task P O) NoRaise) (before after : State P O) → before.project ≡ project → IsPrefix (seen_by p) before.log → seen_by q ≡ after.log → left_by q ≡ Some after.in_progress → splits_of q ≡ splits_of p → IfOk r (λ job. IsReady g before.log before.in_progress job.file job.stage × (after ≡ claimed before job.file job.stage)) → IfOk r (λ job. HasClaimed g project job.file job.stage [] p q)
+  claimed_job (Ok job) before after same seen log left splits d = record {
+    before = before;
+    ready = d.0;
+    entry = record {
+      its_project = same;
+      seen = seen;
+      log = log ∙ ap (λ s. s.log) d.1;
+      in_progress = left ∙ ap (λ s. Some s.in_progress) d.1;
+      splits = splits;
+    };
+  }
+  claimed_job (Err none) before after same seen log left splits d = tt
+
+  pub job_of_pass : (r : Result (Task P O) NoRaise) (before after : State P O) → before.project ≡ project → seen_by q ≡ after.log → IfOk r (λ job. (job.project ≡ before.project) × (job.log ≡ after.log)) → IfOk r (λ job. IsTaskOfPass project job q)
+  job_of_pass (Ok job) before after same log d = record { its_project = d.0 ∙ same; seen = begins_same _ _ (d.1 ∙ sym log) }
+  job_of_pass (Err none) before after same log d = tt
+
+  -- the task was not published in what the pass had seen
+  pub claimed_past : (file stage : ℕ) (events : List (Event O)) → HasClaimed g project file stage events p q → length (outcomes (seen_by p) file) < stage
+  claimed_past file stage events h = omega (arith, h.ready.next, outcomes_grow (seen_by p) h.before.log file (begins_from_prefix (seen_by p) h.before.log h.entry.seen))

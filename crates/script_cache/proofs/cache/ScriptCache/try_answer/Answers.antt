@@ -1,0 +1,43 @@
+use Rattle.std.proofs.Common.{rules, ◌∙◌}
+use Rattle.turn_lock.proofs.Logs.{same_log}
+use Rattle.script_cache.specs.declared.shared_core.SharedCore.{SharedCore}
+use Rattle.script_cache.proofs.cache.ScriptCache.try_answer.Goals as goal
+
+pub leave-requires-clause-log : goal.leave-requires-clause-log
+leave-requires-clause-log g c = same_log (λ (s : SharedCore _ _). s.core.log) _ _ (c.value.ensures.value ∙ c.in-Ok.ensures.entered.value)
+
+pub returns-in-Ok-answer-clause-looked : goal.returns-in-Ok-answer-clause-looked
+returns-in-Ok-answer-clause-looked g c _ _ = record {
+  before = c.value.result.now.core;
+  entry = record {
+    its_project = search rules;
+    seen = search rules;
+    log = search rules;
+    in_progress = search rules;
+    splits = search rules;
+  };
+}
+
+pub returns-in-Err-Unfinished-clause-looked : goal.returns-in-Err-Unfinished-clause-looked
+returns-in-Err-Unfinished-clause-looked g c _ _ = record {
+  before = c.value.result.now.core;
+  entry = record {
+    its_project = search rules;
+    seen = search rules;
+    log = search rules;
+    in_progress = search rules;
+    splits = search rules;
+  };
+}
+
+pub returns-in-Err-NoMemory-clause-looked : goal.returns-in-Err-NoMemory-clause-looked
+returns-in-Err-NoMemory-clause-looked g c _ _ = record {
+  before = c.value.result.now.core;
+  entry = record {
+    its_project = search rules;
+    seen = search rules;
+    log = search rules;
+    in_progress = search rules;
+    splits = search rules;
+  };
+}

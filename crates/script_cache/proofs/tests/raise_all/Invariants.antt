@@ -1,0 +1,5 @@
+use Rattle.script_cache.specs.Entries.{IsCachePass}
+use Rattle.script_cache.proofs.tests.raise_all.Given as goal
+
+abbrev pub invariant-loop : goal.invariant-loop
+invariant-loop g l = IsCachePass l.cache.lock l.pass

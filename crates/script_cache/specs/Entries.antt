@@ -1,0 +1,101 @@
+-- What the entries of a cache leave to their passes.
+use Rattle.std.specs.Prelude.{◌≡◌, ℕ, ◌⊎◌, true, List, [], ◌∷◌, Some}
+use mathlib.Core.List.{IsPrefix}
+use Rattle.stage_core.specs.declared.work.StageOut.{Ghosts}
+use Rattle.stage_core.specs.Begins.{Begins}
+use Rattle.stage_core.specs.CoreState.{Task}
+use Rattle.stage_core.specs.Log.{State, Event, Requests, Claims, Publishes, GivesBack}
+use Rattle.stage_core.specs.declared.log.Entry.{Entry}
+use Rattle.stage_core.specs.declared.log.OutcomeValue.{OutcomeValue}
+use Rattle.stage_core.specs.Machine.{run, outcomes, is_claimed, is_done_at, is_requested, IsKnown, IsReady, HoldsValue}
+use Rattle.turn_lock.specs.declared.lock.Pass.{Pass}
+use Rattle.turn_lock.specs.declared.lock.TurnLock.{TurnLock}
+use Rattle.turn_lock.specs.Passes.{IsPassOf, LosesTake, seen_by, left_by, splits_of}
+use Rattle.script_cache.specs.Files.{IsFileAt}
+use Rattle.script_cache.specs.declared.shared_core.SharedCore.{SharedCore}
+
+module _ {O P : Type 0} where
+  -- the pass is of this lock, and of its project, and holds no turn
+  abbrev pub IsCachePass : TurnLock (SharedCore O P) P (Entry O) (List ℕ) → Pass (SharedCore O P) P (Entry O) (List ℕ) → Type 0
+  IsCachePass l p = IsPassOf (λ (s : SharedCore O P). s.core.project) l p
+
+  -- another pass held the turn: one more take is lost, and the pass has seen and left what it had
+  abbrev pub IsHeldOut : TurnLock (SharedCore O P) P (Entry O) (List ℕ) → Pass (SharedCore O P) P (Entry O) (List ℕ) → Pass (SharedCore O P) P (Entry O) (List ℕ) → Type 0
+  IsHeldOut l p q = LosesTake (λ (s : SharedCore O P). s.core.project) l p q
+
+  -- the task is of this project, and the pass has seen the log that stood when it was claimed
+  pub record IsTaskOfPass (project : P) (task : Task P O) (p : Pass (SharedCore O P) P (Entry O) (List ℕ)) : Type 0 where
+    pub its_project : task.project ≡ project
+    pub seen : Begins task.log (seen_by p)
+
+  -- One entry: it found this core, of the project and with a log that begins with what the pass had seen, and made these events.
+  -- The pass has then seen the core's log, and left its tasks under way
+  pub record IsEntry (project : P) (before : State P O) (events : List (Event O)) (p q : Pass (SharedCore O P) P (Entry O) (List ℕ)) : Type 0 where
+    pub its_project : before.project ≡ project
+    pub seen : IsPrefix (seen_by p) before.log
+    pub log : seen_by q ≡ (run before events).log
+    pub in_progress : left_by q ≡ Some (run before events).in_progress
+    pub splits : splits_of q ≡ splits_of p
+
+  -- one entry made these events
+  pub record HasMade (project : P) (events : List (Event O)) (p q : Pass (SharedCore O P) P (Entry O) (List ℕ)) : Type 0 where
+    pub before : State P O
+    pub entry : IsEntry project before events p q
+
+-- each known file is finished in the log
+abbrev pub AreAllDone : {O P : Type 0} → Ghosts O P → List (Entry O) → Type 0
+AreAllDone g log = (file : ℕ) → IsKnown g log file → is_done_at (outcomes log file) 5 ≡ true
+
+module _ {O P : Type 0} (g : Ghosts O P) (project : P) where
+  -- one entry requested the path's file, and the log has the request
+  pub record HasRequested (path : List ℕ) (p q : Pass (SharedCore O P) P (Entry O) (List ℕ)) : Type 0 where
+    pub file : ℕ
+    pub at : IsFileAt g project path file
+    pub made : HasMade project (Requests file ∷ []) p q
+    pub logged : is_requested (seen_by q) file ≡ true
+
+  -- one entry claimed the task, which was ready, and then made these events
+  pub record HasClaimed (file stage : ℕ) (events : List (Event O)) (p q : Pass (SharedCore O P) P (Entry O) (List ℕ)) : Type 0 where
+    pub before : State P O
+    pub ready : IsReady g before.log before.in_progress file stage
+    pub entry : IsEntry project before (Claims file stage ∷ events) p q
+
+  -- one entry changed nothing, and found each known file finished
+  pub record FindsAllDone (p q : Pass (SharedCore O P) P (Entry O) (List ℕ)) : Type 0 where
+    pub before : State P O
+    pub all_done : AreAllDone g before.log
+    pub entry : IsEntry project before [] p q
+
+  -- one entry changed nothing, and found no task ready, though not each known file is finished
+  pub record FindsNothing (p q : Pass (SharedCore O P) P (Entry O) (List ℕ)) : Type 0 where
+    pub before : State P O
+    pub none_ready : (file stage : ℕ) → IsReady g before.log before.in_progress file stage → ⊥
+    pub unfinished : AreAllDone g before.log → ⊥
+    pub entry : IsEntry project before [] p q
+
+  -- One entry claimed a task that was ready, and gave it back. By the log that the pass has then seen and the tasks under way
+  -- that it has left, the task is ready again, and its first claim is in that log
+  pub record HasGivenBack (p q : Pass (SharedCore O P) P (Entry O) (List ℕ)) : Type 0 where
+    pub file : ℕ
+    pub stage : ℕ
+    pub claimed : HasClaimed file stage (GivesBack file stage ∷ []) p q
+    pub logged : is_claimed (seen_by q) file stage ≡ true
+    pub in_progress : List ℕ
+    pub left : left_by q ≡ Some in_progress
+    pub ready_again : IsReady g (seen_by q) in_progress file stage
+
+  -- one entry claimed the task, and a second one published its value
+  pub record HasRaised (file stage : ℕ) (p q : Pass (SharedCore O P) P (Entry O) (List ℕ)) : Type 0 where
+    pub between : Pass (SharedCore O P) P (Entry O) (List ℕ)
+    pub claimed : HasClaimed file stage [] p between
+    pub outcome : OutcomeValue O
+    pub value : HoldsValue g project file stage outcome
+    pub published : HasMade project (Publishes file stage outcome ∷ []) between q
+
+  -- one entry claimed a task, and a second one gave it back
+  pub record HasRetried (p q : Pass (SharedCore O P) P (Entry O) (List ℕ)) : Type 0 where
+    pub between : Pass (SharedCore O P) P (Entry O) (List ℕ)
+    pub file : ℕ
+    pub stage : ℕ
+    pub claimed : HasClaimed file stage [] p between
+    pub given_back : HasMade project (GivesBack file stage ∷ []) between q

@@ -1,0 +1,5 @@
+pub mod ClaimErrors
+pub mod Entries
+pub mod Files
+pub mod Statuses
+pub mod Tasks

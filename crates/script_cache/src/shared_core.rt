@@ -1,0 +1,29 @@
+//! A core as a lock keeps it.
+ghost use Rattle.std.specs.Prelude.{◌≡◌, ℕ, List, length};
+
+use stage_core::{Core, Entry, StageOut, TasksInProgress};
+use turn_lock::Told;
+
+/// A core, of which a lock knows the project, the log and the tasks under way.
+#[derive(Drop)]
+pub struct SharedCore<O: StageOut> {
+    pub core: Core<O>,
+}
+
+impl<O: StageOut> Told for SharedCore<O> {
+    type Project = O::Project;
+
+    type Entry = Entry<O>;
+
+    type State = TasksInProgress;
+
+    ghost project = { λ s. s.core.project };
+
+    ghost log = { λ s. s.core.log };
+
+    ghost state = { λ s. s.core.in_progress };
+
+    fn log_len(&self) -> u64 {
+        self.core.log_len()
+    }
+}
