@@ -12,3 +12,7 @@ pub mod TypeSteps
 pub mod ExprSteps
 pub mod PatternSteps
 pub mod ExprExamples
+pub mod Exists
+pub mod ExistsTypes
+pub mod ExistsPatterns
+pub mod ExistsExprs

@@ -13,7 +13,7 @@ mod tree;
 
 pub use fault::{FaultKind, Form, LoadFault, Place, SolveError};
 pub use first::{FirstItem, FirstPrint, FirstProduct, FirstScript, FirstSum, SumOp};
-pub use laws::readings_are_unique;
+pub use laws::one_outcome;
 pub use name::{Name, Text};
 pub use path::{PathError, ResPath};
 pub use stops::{Sought, refusal};
