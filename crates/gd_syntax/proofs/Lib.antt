@@ -16,3 +16,4 @@ pub mod Exists
 pub mod ExistsTypes
 pub mod ExistsPatterns
 pub mod ExistsExprs
+pub mod RefusalExamples

@@ -8,6 +8,8 @@ mod laws;
 mod name;
 mod path;
 mod stops;
+#[cfg(test)]
+mod tests;
 mod token;
 mod tree;
 
