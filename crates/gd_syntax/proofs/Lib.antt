@@ -17,3 +17,7 @@ pub mod ExistsTypes
 pub mod ExistsPatterns
 pub mod ExistsExprs
 pub mod RefusalExamples
+pub mod OnlyDeclarations
+pub mod OnlyStatements
+pub mod OnlyMembers
+pub mod OnlyScripts
