@@ -1,6 +1,6 @@
 -- Each reading of tokens has an outcome. What is read never lies behind, and each further turn of a repetition takes a
 -- token of the list, so that every repetition ends.
-use Rattle.std.proofs.Common.{◌≡◌, ◌≢◌, ◌⊎◌, inl, inr, ℕ, zero, suc, ◌+◌, ◌-◌, ◌≤◌, ◌<◌, nat_le, Bool, true, false, List, [], ◌∷◌, ◌++◌, length, Option, Some, None, refl, sym, ap, ◌∙◌, subst, arith}
+use Rattle.std.proofs.Common.{◌≡◌, ◌≢◌, ◌⊎◌, inl, inr, ℕ, zero, suc, ◌+◌, ◌-◌, ◌≤◌, ◌<◌, nat_le, Bool, true, false, if◌then◌else◌, List, [], ◌∷◌, ◌++◌, length, Option, Some, None, refl, sym, ap, ◌∙◌, subst, arith}
 use Rattle.std.proofs.lemmas.Option.{slice_get_past}
 use Rattle.std.proofs.lemmas.Bool.Decides.{leb_tells}
 use Rattle.gd_syntax.specs.declared.fault.Place.{Place}
@@ -89,6 +89,14 @@ sound_at k R r = record { some = λ at. (r at).some at; onward = λ at. (r at).o
 pub has_one : {A : Type 0} (R : Reading A) (at : ℕ) → Only R → (o : Outcome A) × R at o → HasOneOutcome (R at)
 has_one R at only p = (p.0, p.1, λ q h. only at q p.0 h p.1)
 
+if_onward : (test : Bool) (f : LoadFault) (at next : ℕ) (a : Unit {0}) (o : Outcome (Unit {0})) → o ≡ Read a next → o ≡ (if test then Read tt at else Stops f) → at + 0 ≤ next
+if_onward true f at next a o e h = let g = sym e ∙ h in let i : next ≡ at = cc g in omega arith
+if_onward false f at next a o e h = absurd (let g = sym e ∙ h in cc g)
+
+-- a limit
+pub reads_if : (test : ℕ → Bool) (f : ℕ → LoadFault) → Sound {A = Unit {0}} 0 (λ at o. o ≡ (if test at then Read tt at else Stops (f at)))
+reads_if test f = record { some = λ at. (_, refl); onward = λ at next a h. if_onward (test at) (f at) at next a _ refl h }
+
 -- ---- turns
 
 pub goes_on : {A : Type 0} (R : Reading (Turn A)) → Takes R → Moves R
@@ -102,6 +110,9 @@ moves_look {K} {A} view by b = record { reads = sound_look 0 view by (λ v. (b v
   where
     go : (at next : ℕ) (c : A) → Look view by at (Read (On c) next) → at < next
     go at next c (looks {k = v} x y) = (b v).moves at next c y
+
+pub moves_at : {A : Type 0} (R : ℕ → Reading (Turn A)) → ((at : ℕ) → Moves (R at)) → Moves (λ at. R at at)
+moves_at R r = record { reads = sound_at 0 R (λ at. (r at).reads); moves = λ at. (r at).moves at }
 
 module _ (tokens : List Token) where
   -- past the tokens only the file's end is seen
@@ -137,11 +148,18 @@ module _ (tokens : List Token) where
   starts_stops f at next a e h = cc h
 
   pub ends_look : {K A : Type 0} (view : ℕ → K) (by : K → Reading (Turn A)) (of : Kind → ℕ → K) → ((at : ℕ) → view at ≡ of (kind_at tokens at) at)
-      → ((at next : ℕ) (b : A) → by (of (Marked m.End) at) at (Read (On b) next) → ⊥) → Ends (Look view by)
+      → ((at next : ℕ) (b : A) → kind_at tokens at ≡ Marked m.End → by (of (Marked m.End) at) at (Read (On b) next) → ⊥) → Ends (Look view by)
   ends_look view by of is s at next b e (looks {k = k} x y) =
       let same : k ≡ of (Marked m.End) at = sym x ∙ is at ∙ ap (λ c. of c at) e in
       let P : _ → Type 0 = λ c. by c at (Read (On b) next) in
-      s at next b (subst P same y)
+      s at next b e (subst P same y)
+
+  -- a turn by the next token
+  pub ends_mark : {A : Type 0} (by : Option Mark → Reading (Turn A)) → ((at next : ℕ) (b : A) → kind_at tokens at ≡ Marked m.End → by (Some m.End) at (Read (On b) next) → ⊥) → Ends (Look (mark_at tokens) by)
+  ends_mark by s = ends_look (mark_at tokens) by (λ k at. mark_of k) (λ at. refl) s
+
+  pub starts_mark : {A : Type 0} (by : Option Mark → Reading A) → Starts (by (Some m.End)) → Starts (Look (mark_at tokens) by)
+  starts_mark by s = starts_look (mark_at tokens) by mark_of (λ at. refl) s
 
   -- ---- repetitions
 
@@ -170,13 +188,7 @@ module _ (tokens : List Token) where
   takes_skip = record { some = λ at. (Read tt (at + 1), refl); onward = λ at next a e. let h : next ≡ at + 1 = cc e in omega arith }
 
   pub reads_fits : (room n : ℕ) → Reads (fits tokens room n)
-  reads_fits room n = record { some = λ at. (_, refl); onward = go }
-    where
-      go : (at next : ℕ) (a : Unit {0}) → fits tokens room n at (Read a next) → at + 0 ≤ next
-      go at next a e = elim (leb_tells n room) [
-        | inl t ↦ let h = rw t.0 at e in let g : next ≡ at = cc h in omega arith
-        | inr t ↦ let h = rw t.0 at e in absurd (cc h)
-      ]
+  reads_fits room n = reads_if (λ at. nat_le n room) _
 
   pub sound_refuse : {A : Type 0} (k : ℕ) (sought : Sought) → Sound k (refuse tokens {A = A} sought)
   sound_refuse k sought = sound_stops k (λ at. refusal_at tokens sought at)
@@ -232,6 +244,9 @@ module _ (tokens : List Token) where
   reads_comma : {A : Type 0} (sofar : List A) (k : Option Mark) → Reads (comma_by tokens sofar k)
   reads_comma sofar (Some m.Comma) = reads _ (taken _ _ takes_skip (λ _. reads_give _))
   reads_comma sofar _ = reads_give _
+
+  pub reads_comma_turn : {A : Type 0} (sofar : List A) → Reads (comma tokens sofar)
+  reads_comma_turn sofar = sound_look 0 _ _ (reads_comma sofar)
 
   module _ {A : Type 0} (item : Reading A) (i : Form item) (closing : Mark) where
     further : (sofar : List A) → Takes (Then item (λ x. comma tokens (sofar ++ x ∷ [])))

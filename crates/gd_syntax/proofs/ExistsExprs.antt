@@ -74,7 +74,7 @@ module _ (tokens : List Token) where
 
     ends_step : (sofar : List (List ℕ)) → Ends tokens (step tokens room inner sofar)
     ends_step sofar = ends_look tokens (λ at. is_step (mark_at tokens at) (plain_name (kind_at tokens (at + 1)))) (step_by tokens room inner sofar)
-        (λ k at. is_step (mark_of k) (plain_name (kind_at tokens (at + 1)))) (λ at. refl) (λ at next b e. cc e)
+        (λ k at. is_step (mark_of k) (plain_name (kind_at tokens (at + 1)))) (λ at. refl) (λ at next b i e. cc e)
 
     takes_node_by : (place : Place) (k : Kind) → Takes (node_by tokens room inner place k)
     takes_node_by place (Text text) = takes_leaf _
@@ -121,7 +121,7 @@ module _ (tokens : List Token) where
     moves_part_by place a _ = ends a
 
     ends_part : (place : Place) (a : Expr) → Ends tokens (part tokens room inner place a)
-    ends_part place a = ends_look tokens (mark_at tokens) (part_by tokens room inner place a) (λ k at. mark_of k) (λ at. refl) (λ at next b e. cc e)
+    ends_part place a = ends_look tokens (mark_at tokens) (part_by tokens room inner place a) (λ k at. mark_of k) (λ at. refl) (λ at next b i e. cc e)
 
     takes_postfix : Takes (postfix tokens room inner)
     takes_postfix = sound_at 1 (λ place. Then (operand tokens room inner) (Loop (part tokens room inner (place_at tokens place))))
@@ -136,7 +136,7 @@ module _ (tokens : List Token) where
     moves_test_by place a _ = ends a
 
     ends_test : (place : Place) (a : Expr) → Ends tokens (test tokens room inner place a)
-    ends_test place a = ends_look tokens (mark_at tokens) (test_by tokens room inner place a) (λ k at. mark_of k) (λ at. refl) (λ at next b e. cc e)
+    ends_test place a = ends_look tokens (mark_at tokens) (test_by tokens room inner place a) (λ k at. mark_of k) (λ at. refl) (λ at next b i e. cc e)
 
     takes_type_test : Takes (type_test tokens room inner)
     takes_type_test = sound_at 1 (λ place. Then (postfix tokens room inner) (Loop (test tokens room inner (place_at tokens place))))
@@ -226,7 +226,7 @@ module _ (tokens : List Token) where
     moves_cast_by place a _ = ends a
 
     ends_cast : (place : Place) (a : Expr) → Ends tokens (Look (mark_at tokens) (cast_by tokens room inner place a))
-    ends_cast place a = ends_look tokens (mark_at tokens) (cast_by tokens room inner place a) (λ k at. mark_of k) (λ at. refl) (λ at next b e. cc e)
+    ends_cast place a = ends_look tokens (mark_at tokens) (cast_by tokens room inner place a) (λ k at. mark_of k) (λ at. refl) (λ at next b i e. cc e)
 
     form_cast : Form tokens (cast tokens room inner)
     form_cast = record {

@@ -19,7 +19,7 @@ module _ (tokens : List Token) where
   moves_dotted_by sofar _ = ends sofar
 
   ends_dotted : (sofar : List (List ℕ)) → Ends tokens (dotted tokens sofar)
-  ends_dotted sofar = ends_look tokens (mark_at tokens) (dotted_by tokens sofar) (λ k at. mark_of k) (λ at. refl) (λ at next b e. cc e)
+  ends_dotted sofar = ends_look tokens (mark_at tokens) (dotted_by tokens sofar) (λ k at. mark_of k) (λ at. refl) (λ at next b i e. cc e)
 
   reads_dots : (names : List (List ℕ)) → Reads (Loop (dotted tokens) names)
   reads_dots names = reads_loop tokens (dotted tokens) (λ sofar. moves_look _ _ (moves_dotted_by sofar)) ends_dotted names

@@ -21,3 +21,7 @@ pub mod OnlyDeclarations
 pub mod OnlyStatements
 pub mod OnlyMembers
 pub mod OnlyScripts
+pub mod ExistsDeclarations
+pub mod ExistsStatements
+pub mod ExistsMembers
+pub mod ExistsScripts

@@ -5,6 +5,12 @@ use Rattle.gd_syntax.proofs.Exists.{has_one}
 use Rattle.gd_syntax.proofs.ExistsTypes.{takes_type_name, takes_result_type}
 use Rattle.gd_syntax.proofs.ExistsPatterns.{takes_pattern}
 use Rattle.gd_syntax.proofs.ExistsExprs.{form_expression}
+use Rattle.gd_syntax.proofs.OnlyStatements.{only_block}
+use Rattle.gd_syntax.proofs.OnlyMembers.{only_class_block}
+use Rattle.gd_syntax.proofs.OnlyScripts.{only_script}
+use Rattle.gd_syntax.proofs.ExistsStatements.{takes_block}
+use Rattle.gd_syntax.proofs.ExistsMembers.{takes_class_block}
+use Rattle.gd_syntax.proofs.ExistsScripts.{takes_script}
 use Rattle.gd_syntax.proofs.laws.one_outcome.Goals as goal
 
 pub returns-clause-types : goal.returns-clause-types
@@ -18,3 +24,12 @@ returns-clause-patterns c tokens room at = has_one _ at (only_pattern tokens roo
 
 pub returns-clause-expressions : goal.returns-clause-expressions
 returns-clause-expressions c tokens room level at = has_one _ at (only_expression tokens room level) ((form_expression tokens room level).takes.some at)
+
+pub returns-clause-blocks : goal.returns-clause-blocks
+returns-clause-blocks c tokens room at = has_one _ at (only_block tokens room) ((takes_block tokens room).some at)
+
+pub returns-clause-classes : goal.returns-clause-classes
+returns-clause-classes c tokens room classes at = has_one _ at (only_class_block tokens room classes) ((takes_class_block tokens room classes).some at)
+
+pub returns-clause-script : goal.returns-clause-script
+returns-clause-script c tokens at = has_one _ at (only_script tokens) ((takes_script tokens).some at)
