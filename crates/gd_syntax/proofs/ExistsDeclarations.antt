@@ -1,10 +1,9 @@
 -- Each reading of an annotation, a variable or a constant has an outcome.
-use Rattle.std.proofs.Common.{ℕ, nat_lt, Bool, List, [], ◌∷◌, Option, Some, None, refl}
+use Rattle.std.proofs.Common.{ℕ, nat_lt, Bool, List, [], Option, Some, refl}
 use Rattle.gd_syntax.specs.declared.fault.Place.{Place}
 use Rattle.gd_syntax.specs.declared.token.Token.{Token}
 use Rattle.gd_syntax.specs.declared.token.Mark.{Mark}
 use Rattle.gd_syntax.specs.declared.token.Mark.TheVariants as m
-use Rattle.gd_syntax.specs.declared.tree.expr.Expr.{Expr}
 use Rattle.gd_syntax.specs.declared.tree.member.Annotation.{Annotation}
 use Rattle.gd_syntax.specs.declared.tree.member.Var.{Var}
 use Rattle.gd_syntax.specs.declared.stops.Sought.{Sought}

@@ -1,5 +1,5 @@
 -- Each reading of an expression has an outcome.
-use Rattle.std.proofs.Common.{◌≡◌, ◌≢◌, inl, inr, ℕ, zero, suc, ◌+◌, ◌-◌, ◌≤◌, ◌<◌, ◌==◌, Bool, true, false, List, [], ◌∷◌, Option, Some, None, refl, sym, ap, ◌∙◌, arith}
+use Rattle.std.proofs.Common.{◌≡◌, inl, inr, ℕ, zero, suc, ◌+◌, ◌-◌, ◌≤◌, ◌<◌, ◌==◌, Bool, true, false, List, [], ◌∷◌, Option, Some, None, refl, sym, ap, ◌∙◌, arith}
 use Rattle.std.proofs.lemmas.Bool.Decides.{eqb_tells}
 use Rattle.gd_syntax.specs.declared.fault.Place.{Place}
 use Rattle.gd_syntax.specs.declared.token.Token.{Token}
@@ -12,13 +12,13 @@ use Rattle.gd_syntax.specs.declared.tree.expr.TreeOp.{TreeOp}
 use Rattle.gd_syntax.specs.declared.tree.expr.TreePrefix.{TreePrefix}
 use Rattle.gd_syntax.specs.declared.tree.expr.Expr.{Expr}
 use Rattle.gd_syntax.specs.Levels.{levels}
-use Rattle.gd_syntax.specs.Operators.{PREFIX, NOT, OR, TERNARY, AS, level_of, operator_of, prefix_of, is_not}
-use Rattle.gd_syntax.specs.Reading.{Outcome, Read, Reading, Then, Look, Turn, On, Loop, either}
+use Rattle.gd_syntax.specs.Operators.{PREFIX, NOT, OR, TERNARY, AS, level_of, prefix_of, is_not}
+use Rattle.gd_syntax.specs.Reading.{Read, Reading, Then, Look, Turn, On, Loop, either}
 use Rattle.gd_syntax.specs.declared.stops.Sought.TheVariants.{Operand, Node, LoadPath, Other}
 use Rattle.gd_syntax.specs.Refusals.{is_load}
 use Rattle.gd_syntax.specs.TokenReading.{skip, list, kind_at, mark_of, mark_at, place_at, any_name, plain_name, is_plain, literal_of}
 use Rattle.gd_syntax.specs.ExprGrammar.{is_step, leaf, entry, field_name, field_name_by, field, dict_by, preload, load, step, step_by, node_by, super_by, named, other_by, operand_by, operand, part, part_by, postfix, kind_test_by, test, test_by, type_test, prefix_by, prefix, operation, operation_by, BinaryTurn, binary, negation_by, negation, level, ternary_by, ternary, cast_by, cast, form, deeper, expression}
-use Rattle.gd_syntax.proofs.Exists.{Sound, Reads, Takes, Moves, taken, reads_then, takes, reads, sound_look, sound_either, sound_stops, sound_at, sound_refuse, reads_give, reads_fits, goes_on, ends, moves_look, Starts, starts_then, starts_look, starts_either, starts_stops, starts_refuse, Ends, ends_look, reads_loop, takes_skip, takes_due, takes_one, starts_one, takes_path, Form, takes_list}
+use Rattle.gd_syntax.proofs.Exists.{Reads, Takes, Moves, taken, reads_then, takes, reads, sound_look, sound_either, sound_stops, sound_at, sound_refuse, reads_give, reads_fits, goes_on, ends, moves_look, Starts, starts_then, starts_look, starts_stops, starts_refuse, Ends, ends_look, reads_loop, takes_skip, takes_due, takes_one, takes_path, Form, takes_list}
 use Rattle.gd_syntax.proofs.ExistsTypes.{takes_type_name}
 
 module _ (tokens : List Token) where

@@ -1,8 +1,7 @@
 -- Each reading of a pattern has an outcome.
 use Rattle.std.proofs.Common.{◌≡◌, ℕ, zero, suc, ◌+◌, ◌≤◌, Bool, true, false, if◌then◌else◌, List, [], ◌∷◌, Option, Some, None, refl, sym, ◌∙◌, arith}
 use Rattle.gd_syntax.specs.declared.fault.Place.{Place}
-use Rattle.gd_syntax.specs.declared.fault.LoadFault.{LoadFault}
-use Rattle.gd_syntax.specs.declared.fault.FaultKind.TheVariants.{NestTooDeep, Unsupported}
+use Rattle.gd_syntax.specs.declared.fault.FaultKind.TheVariants.{Unsupported}
 use Rattle.gd_syntax.specs.declared.fault.Form.TheVariants.{When}
 use Rattle.gd_syntax.specs.declared.token.Token.{Token}
 use Rattle.gd_syntax.specs.declared.token.Kind.{Kind}
@@ -11,11 +10,11 @@ use Rattle.gd_syntax.specs.declared.token.Mark.{Mark}
 use Rattle.gd_syntax.specs.declared.token.Mark.TheVariants as m
 use Rattle.gd_syntax.specs.declared.tree.expr.Literal.{Literal}
 use Rattle.gd_syntax.specs.declared.tree.pattern.Pattern.{Pattern}
-use Rattle.gd_syntax.specs.Reading.{Outcome, Read, Stops, Reading, Then, Look, Turn, On, Last, Loop}
+use Rattle.gd_syntax.specs.Reading.{Outcome, Read, Stops, Reading, Then, Look}
 use Rattle.gd_syntax.specs.declared.stops.Sought.TheVariants.{Other}
-use Rattle.gd_syntax.specs.TokenReading.{kind_at, mark_of, mark_at, place_at, fault_at, refusal_at, any_name, plain_name, literal_of}
-use Rattle.gd_syntax.specs.PatternGrammar.{is_pattern, is_when, goes_on as is_further, more, more_by, items_by, rest_by, open_list, names_by, path, key_by, entry_by, entry_pattern, other_pattern_by, pattern_by, finished, pattern_form, pattern}
-use Rattle.gd_syntax.proofs.Exists.{Sound, Reads, Takes, Moves, taken, reads_then, takes, reads, sound_look, sound_stops, sound_at, sound_refuse, reads_give, reads_fits, goes_on, ends, moves_look, Starts, starts_then, starts_look, starts_stops, starts_one, Ends, ends_look, reads_loop, takes_skip, takes_due, takes_one, takes_identifier}
+use Rattle.gd_syntax.specs.TokenReading.{kind_at, mark_of, mark_at, place_at, fault_at, any_name, plain_name, literal_of}
+use Rattle.gd_syntax.specs.PatternGrammar.{is_when, goes_on as is_further, more, more_by, items_by, rest_by, open_list, names_by, path, key_by, entry_by, entry_pattern, other_pattern_by, pattern_by, finished, pattern_form, pattern}
+use Rattle.gd_syntax.proofs.Exists.{Reads, Takes, Moves, taken, reads_then, takes, reads, sound_look, sound_stops, sound_at, sound_refuse, reads_give, reads_fits, goes_on, ends, moves_look, Starts, starts_then, starts_look, starts_stops, starts_one, Ends, ends_look, reads_loop, takes_skip, takes_due, takes_one, takes_identifier}
 
 module _ (tokens : List Token) where
   module _ {A : Type 0} (item : Reading A) (i : Takes item) where

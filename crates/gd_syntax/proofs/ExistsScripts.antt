@@ -1,5 +1,5 @@
 -- Each reading of a file has an outcome.
-use Rattle.std.proofs.Common.{ℕ, ◌==◌, Bool, true, false, not, ◌||◌, List, [], ◌∷◌, ◌++◌, map, Option, Some, None}
+use Rattle.std.proofs.Common.{ℕ, Bool, true, false, not, ◌||◌, List, [], ◌∷◌, Option, Some}
 use Rattle.std.specs.List.{list_any}
 use Rattle.gd_syntax.specs.declared.fault.Place.{Place}
 use Rattle.gd_syntax.specs.declared.token.Token.{Token}
@@ -13,7 +13,7 @@ use Rattle.gd_syntax.specs.declared.stops.Sought.TheVariants.{Other}
 use Rattle.gd_syntax.specs.TokenReading.{mark_at, place_at}
 use Rattle.gd_syntax.specs.MemberGrammar.{max_open_classes, is_field_annotation, class_block}
 use Rattle.gd_syntax.specs.ScriptGrammar.{Heads, is_head_annotation, may_follow, is_named, is_based, is_annotated, in_header, base_by, name_by, class_name, extends, head_by, head, first_member, no_member, rest, file_by, file, script}
-use Rattle.gd_syntax.proofs.Exists.{Reads, Takes, Moves, taken, reads_then, takes, reads, sound_look, sound_either, sound_at, sound_refuse, reads_give, goes_on, ends, moves_look, moves_at, Ends, ends_mark, reads_loop, takes_skip, takes_due}
+use Rattle.gd_syntax.proofs.Exists.{Reads, Takes, Moves, taken, reads_then, takes, reads, sound_look, sound_either, sound_at, sound_refuse, reads_give, goes_on, ends, moves_look, moves_at, Ends, ends_mark, reads_loop, takes_due}
 use Rattle.gd_syntax.proofs.ExistsDeclarations.{past, takes_new_name, takes_annot}
 use Rattle.gd_syntax.proofs.ExistsMembers.{takes_base, reads_extends_by, takes_annotated, reads_members, takes_class_block}
 

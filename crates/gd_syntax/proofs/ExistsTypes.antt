@@ -7,10 +7,9 @@ use Rattle.gd_syntax.specs.declared.token.Mark.{Mark}
 use Rattle.gd_syntax.specs.declared.token.Mark.TheVariants as m
 use Rattle.gd_syntax.specs.declared.stops.Sought.{Sought}
 use Rattle.gd_syntax.specs.declared.stops.Sought.TheVariants.{Other}
-use Rattle.gd_syntax.specs.Reading.{Reading, Then, Look, Loop}
+use Rattle.gd_syntax.specs.Reading.{Then, Look, Loop}
 use Rattle.gd_syntax.specs.TokenReading.{mark_of, mark_at, place_at, plain_name, OneOf}
 use Rattle.gd_syntax.specs.TypeGrammar.{dotted, dotted_by, bracket_form, typed_by, type_name, result_by, result_type}
-use Rattle.gd_syntax.specs.declared.tree.type_name.TypeName.{TypeName}
 use Rattle.gd_syntax.proofs.Exists.{Reads, Takes, Moves, taken, reads_then, reads, sound_look, sound_stops, sound_at, reads_give, goes_on, ends, moves_look, Ends, ends_look, reads_loop, takes_skip, takes_one}
 
 module _ (tokens : List Token) where

@@ -25,3 +25,5 @@ pub mod ExistsDeclarations
 pub mod ExistsStatements
 pub mod ExistsMembers
 pub mod ExistsScripts
+pub mod StatementSteps
+pub mod ScriptExamples

@@ -1,16 +1,15 @@
 -- No reading of an annotation, a variable or a constant has two outcomes.
-use Rattle.std.proofs.Common.{ℕ, Bool, List, [], ◌∷◌, Option, Some, None}
+use Rattle.std.proofs.Common.{ℕ, Bool, List, [], Option, Some}
 use Rattle.gd_syntax.specs.declared.fault.Place.{Place}
 use Rattle.gd_syntax.specs.declared.token.Token.{Token}
 use Rattle.gd_syntax.specs.declared.token.Mark.{Mark}
 use Rattle.gd_syntax.specs.declared.token.Mark.TheVariants as m
-use Rattle.gd_syntax.specs.declared.tree.expr.Expr.{Expr}
 use Rattle.gd_syntax.specs.declared.tree.member.Annotation.{Annotation}
 use Rattle.gd_syntax.specs.declared.tree.member.Var.{Var}
 use Rattle.gd_syntax.specs.declared.stops.Sought.{Sought}
 use Rattle.gd_syntax.specs.declared.stops.Sought.TheVariants.{VarType, AnnotationName, Other}
 use Rattle.gd_syntax.specs.Operators.{AS}
-use Rattle.gd_syntax.specs.TokenReading.{max_levels, any_name, place_at}
+use Rattle.gd_syntax.specs.TokenReading.{max_levels, any_name}
 use Rattle.gd_syntax.specs.DeclarationGrammar.{annotation_word, const_sign, expr, below, new_name, type_by, value_by, declared_by, declared, args_by, line_end_by, annot, annots_by, annots, var_end_by, var, const}
 use Rattle.gd_syntax.proofs.Only.{Only, only_is, only_then, only_look, only_loop, only_skip, only_one, only_list}
 use Rattle.gd_syntax.proofs.OnlyTypes.{only_type_name}

@@ -12,7 +12,6 @@ use Rattle.gd_syntax.specs.declared.tree.type_name.Declared.{Declared}
 use Rattle.gd_syntax.specs.Reading.{Reading}
 use Rattle.gd_syntax.specs.declared.stops.Sought.TheVariants.{StaticFunc, Other}
 use Rattle.gd_syntax.specs.TokenReading.{any_name, place_at}
-use Rattle.gd_syntax.specs.DeclarationGrammar.{below}
 use Rattle.gd_syntax.specs.StatementGrammar.{max_blocks}
 use Rattle.gd_syntax.specs.MemberGrammar.{max_params, max_members, max_classes, root_of, has_value, is_field_annotation, is_member_word, base_by, base, extends_by, item, enum_name_by, enum_name, enum, param_by, param, params_by, params, signal_param, defaulted, func_param, signal_by, signal, result_by, func, annotated_by, annotated, plain, pass, const_line, enum_line, signal_line, class, member_by, member, members_by, members, class_block}
 use Rattle.gd_syntax.proofs.Only.{Only, only_is, only_then, only_look, only_loop, only_either, only_skip, only_due, only_one, only_comma_turn, only_list}

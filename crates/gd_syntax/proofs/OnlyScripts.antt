@@ -1,5 +1,5 @@
 -- No reading of a file has two outcomes.
-use Rattle.std.proofs.Common.{ℕ, Bool, true, false, not, ◌||◌, List, [], ◌∷◌, Option, Some, None}
+use Rattle.std.proofs.Common.{ℕ, Bool, true, false, not, ◌||◌, List, [], ◌∷◌, Option, Some}
 use Rattle.std.specs.List.{list_any}
 use Rattle.gd_syntax.specs.declared.fault.Place.{Place}
 use Rattle.gd_syntax.specs.declared.token.Token.{Token}

@@ -1,5 +1,5 @@
 -- The grammar of annotations, variables and constants, which classes and blocks share.
-use Rattle.std.specs.Prelude.{◌≡◌, ℕ, nat_lt, Bool, true, false, ◌||◌, if◌then◌else◌, List, [], ◌∷◌, ◌++◌, codes, bytes_eq, Option, Some, None}
+use Rattle.std.specs.Prelude.{◌≡◌, ℕ, nat_lt, Bool, ◌||◌, if◌then◌else◌, List, [], ◌∷◌, ◌++◌, codes, bytes_eq, Option, Some, None}
 use Rattle.gd_syntax.specs.declared.fault.Place.{Place}
 use Rattle.gd_syntax.specs.declared.fault.FaultKind.TheVariants.{TooMany}
 use Rattle.gd_syntax.specs.declared.token.Token.{Token}
@@ -19,7 +19,7 @@ use Rattle.gd_syntax.specs.Operators.{AS}
 use Rattle.gd_syntax.specs.Reading.{Read, Stops, Reading, ◌>>=◌, ◌>>◌, give, Look, Turn, On, Last, Loop}
 use Rattle.gd_syntax.specs.declared.stops.Sought.{Sought}
 use Rattle.gd_syntax.specs.declared.stops.Sought.TheVariants.{VarType, VarEnd, AnnotationName, Other}
-use Rattle.gd_syntax.specs.TokenReading.{max_levels, any_name, mark_at, place_at, fault_at, skip, refuse, Due, OneOf, list}
+use Rattle.gd_syntax.specs.TokenReading.{max_levels, any_name, mark_at, place_at, fault_at, skip, refuse, OneOf, list}
 use Rattle.gd_syntax.specs.TypeGrammar.{type_name}
 use Rattle.gd_syntax.specs.ExprGrammar.{expression}
 

@@ -1,5 +1,5 @@
 -- The grammar of classes and their members.
-use Rattle.std.specs.Prelude.{◌≡◌, ℕ, zero, suc, ◌+◌, Bool, true, false, not, ◌&&◌, ◌||◌, if◌then◌else◌, List, [], ◌∷◌, ◌++◌, length, Option, Some, None}
+use Rattle.std.specs.Prelude.{ℕ, zero, suc, ◌+◌, Bool, true, false, not, ◌&&◌, ◌||◌, List, [], ◌∷◌, ◌++◌, length, Option, Some, None}
 use Rattle.std.specs.List.{list_any}
 use Rattle.gd_syntax.specs.declared.fault.Place.{Place}
 use Rattle.gd_syntax.specs.declared.token.Token.{Token}
@@ -7,7 +7,6 @@ use Rattle.gd_syntax.specs.declared.token.Kind.{Kind}
 use Rattle.gd_syntax.specs.declared.token.Kind.TheVariants.{Name, Text}
 use Rattle.gd_syntax.specs.declared.token.Mark.{Mark}
 use Rattle.gd_syntax.specs.declared.token.Mark.TheVariants as m
-use Rattle.gd_syntax.specs.declared.tree.expr.Expr.{Expr}
 use Rattle.gd_syntax.specs.declared.tree.member.Annotation.{Annotation}
 use Rattle.gd_syntax.specs.declared.tree.member.Base.{Base}
 use Rattle.gd_syntax.specs.declared.tree.member.BaseRoot.{BaseRoot}
@@ -23,7 +22,7 @@ use Rattle.gd_syntax.specs.declared.tree.type_name.Declared.{Declared}
 use Rattle.gd_syntax.specs.declared.tree.type_name.Declared.TheVariants.{Typed, Inferred}
 use Rattle.gd_syntax.specs.declared.tree.type_name.Identifier.{Identifier}
 use Rattle.gd_syntax.specs.declared.tree.type_name.TypeName.{TypeName}
-use Rattle.gd_syntax.specs.Reading.{Read, Stops, Reading, ◌>>=◌, ◌>>◌, give, either, Look, Turn, On, Last, Loop}
+use Rattle.gd_syntax.specs.Reading.{Reading, ◌>>=◌, ◌>>◌, give, either, Look, Turn, On, Last, Loop}
 use Rattle.gd_syntax.specs.declared.stops.Sought.TheVariants.{Parameter, StaticFunc, Other}
 use Rattle.gd_syntax.specs.TokenReading.{any_name, kind_at, mark_at, place_at, skip, refuse, Due, OneOf, comma, list}
 use Rattle.gd_syntax.specs.TypeGrammar.{result_type}

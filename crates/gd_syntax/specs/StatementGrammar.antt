@@ -1,5 +1,5 @@
 -- The grammar of statements and blocks.
-use Rattle.std.specs.Prelude.{◌≡◌, ℕ, zero, suc, Bool, true, false, ◌||◌, if◌then◌else◌, List, [], ◌∷◌, ◌++◌, map, Option, Some, None}
+use Rattle.std.specs.Prelude.{◌≡◌, ℕ, zero, suc, Bool, true, false, if◌then◌else◌, List, [], ◌∷◌, ◌++◌, map, Option, Some, None}
 use Rattle.std.specs.List.{list_any}
 use Rattle.gd_syntax.specs.declared.fault.Place.{Place}
 use Rattle.gd_syntax.specs.declared.fault.FaultKind.TheVariants.{NestTooDeep}
@@ -23,7 +23,7 @@ use Rattle.gd_syntax.specs.declared.tree.statement.Simple.TheVariants as simply
 use Rattle.gd_syntax.specs.declared.tree.statement.Stmt.{Stmt}
 use Rattle.gd_syntax.specs.declared.tree.statement.Stmt.TheVariants as s
 use Rattle.gd_syntax.specs.declared.tree.member.Annotation.{Annotation}
-use Rattle.gd_syntax.specs.Reading.{Read, Stops, Reading, ◌>>=◌, ◌>>◌, give, either, Look, Turn, On, Last, Loop}
+use Rattle.gd_syntax.specs.Reading.{Stops, Reading, ◌>>=◌, ◌>>◌, give, either, Look, Turn, On, Last, Loop}
 use Rattle.gd_syntax.specs.declared.stops.Sought.TheVariants.{Other}
 use Rattle.gd_syntax.specs.TokenReading.{max_levels, literal_of, kind_at, mark_at, place_at, fault_at, skip, refuse, refusal_at, Due}
 use Rattle.gd_syntax.specs.PatternGrammar.{is_pattern, leaf_pattern, other_pattern_by, finished, pattern}
