@@ -9,7 +9,7 @@ use Rattle.gd_syntax.specs.declared.token.Mark.TheVariants as m
 use Rattle.gd_syntax.specs.Reading.{Outcome, Read, Reading, Then, goes, halts, Look, looks, Turn, Loop, either}
 use Rattle.gd_syntax.specs.declared.stops.Sought.{Sought}
 use Rattle.gd_syntax.specs.declared.stops.Sought.TheVariants.{Other}
-use Rattle.gd_syntax.specs.TokenReading.{is_uid, place_at, skip, Due, OneOf, plain_name, identifier, path_text, path_text_by, Item, comma_by, list}
+use Rattle.gd_syntax.specs.TokenReading.{is_uid, place_at, skip, Due, OneOf, plain_name, identifier, path_text, path_text_by, Item, comma, comma_by, list}
 
 abbrev pub Only : {A : Type 0} → Reading A → Type 0
 Only {A} R = (at : ℕ) (p q : Outcome A) → R at p → R at q → p ≡ q
@@ -82,14 +82,18 @@ module _ (tokens : List Token) where
   pub only_path_text : (sought : Sought) → Only (path_text tokens sought)
   only_path_text sought at = only_look _ _ (only_path_text_by sought (place_at tokens at)) at
 
-  module _ {A : Type 0} (item : Reading A) (i : Only item) where
-    only_comma : (sofar : List A) (k : Option Mark) → Only (comma_by tokens sofar k)
-    only_comma sofar (Some m.Comma) = only_then _ _ only_skip (λ _. only_is _)
-    only_comma sofar _ = only_is _
+  -- after an item
+  only_after : {A : Type 0} (sofar : List A) (k : Option Mark) → Only (comma_by tokens sofar k)
+  only_after sofar (Some m.Comma) = only_then _ _ only_skip (λ _. only_is _)
+  only_after sofar _ = only_is _
 
+  pub only_comma_turn : {A : Type 0} (sofar : List A) → Only (comma tokens sofar)
+  only_comma_turn sofar = only_look _ _ (only_after sofar)
+
+  module _ {A : Type 0} (item : Reading A) (i : Only item) where
     only_item : (closing : Mark) (sofar : List A) → Only (Item tokens item closing sofar)
     only_item closing sofar at p q (Item.closed x) (Item.closed y) = refl
-    only_item closing sofar at p q (Item.further x y) (Item.further z w) = only_then _ _ i (λ a. only_look _ _ (only_comma (sofar ++ a ∷ []))) at p q y w
+    only_item closing sofar at p q (Item.further x y) (Item.further z w) = only_then _ _ i (λ a. only_comma_turn (sofar ++ a ∷ [])) at p q y w
     only_item closing sofar at p q (Item.closed x) (Item.further z w) = absurd (z x)
     only_item closing sofar at p q (Item.further x y) (Item.closed z) = absurd (x z)
 

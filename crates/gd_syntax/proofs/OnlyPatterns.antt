@@ -56,7 +56,7 @@ module _ (tokens : List Token) where
     only_entry : Only (entry_pattern tokens room inner)
     only_entry = only_then _ _ (only_look _ _ only_key_by) (λ key. only_look _ _ (only_entry_by key))
 
-    only_other_by : (place : Place) (k : Kind) → Only (other_pattern_by tokens room inner place k)
+    pub only_other_by : (place : Place) (k : Kind) → Only (other_pattern_by tokens room inner place k)
     only_other_by place (Marked m.Var) = only_then _ _ (only_skip tokens) (λ _. only_then _ _ (only_identifier tokens) (λ name. only_is _))
     only_other_by place (Marked m.Minus) = only_then _ _ (only_skip tokens) (λ _. only_then _ _ (only_one tokens literal_of Other) (λ value. only_is _))
     only_other_by place (Marked m.LBracket) = only_then _ _ (only_skip tokens) (λ _. only_then _ _ (only_open_list inner i m.RBracket) (λ all. only_is _))

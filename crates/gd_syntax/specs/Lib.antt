@@ -18,3 +18,7 @@ pub mod TypeGrammar
 pub mod Operators
 pub mod ExprGrammar
 pub mod PatternGrammar
+pub mod DeclarationGrammar
+pub mod StatementGrammar
+pub mod MemberGrammar
+pub mod ScriptGrammar

@@ -8,12 +8,14 @@ mod laws;
 mod name;
 mod path;
 mod stops;
+#[cfg(test)]
+mod tests;
 mod token;
 mod tree;
 
 pub use fault::{FaultKind, Form, LoadFault, Place, SolveError};
 pub use first::{FirstItem, FirstPrint, FirstProduct, FirstScript, FirstSum, SumOp};
-pub use laws::readings_are_unique;
+pub use laws::one_outcome;
 pub use name::{Name, Text};
 pub use path::{PathError, ResPath};
 pub use stops::{Sought, refusal};
