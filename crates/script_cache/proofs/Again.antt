@@ -1,12 +1,13 @@
 -- A task that is claimed and given back in one entry is ready again.
-use Rattle.std.proofs.Common.{◌≡◌, ◌∙◌, ℕ, ◌+◌, true, false, cond, nat_le, List, [], ◌∷◌, ◌++◌, length, slice_index, slice_set, Some, refl, sym, ap, subst, subst₂, arith, append-nil}
+use Rattle.std.proofs.Common.{◌≡◌, ◌∙◌, ℕ, ◌+◌, true, false, cond, nat_le, List, [], ◌∷◌, ◌++◌, ◌-◌, ◌≤◌, ◌⊎◌, inl, inr, length, take, slice_index, slice_set, refl, sym, ap, subst, arith, append-nil}
 use Rattle.std.proofs.lemmas.Bool.Decides.{nat_tests}
+use Rattle.std.proofs.lemmas.List.{take_all}
 use Rattle.std.proofs.lemmas.Grind.{common_steps}
 use Rattle.stage_core.specs.declared.work.StageOut.{Ghosts}
 use Rattle.stage_core.specs.declared.log.Entry.{Entry}
 use Rattle.stage_core.specs.declared.log.Entry.TheVariants.{Claim}
 use Rattle.stage_core.specs.Log.{State}
-use Rattle.stage_core.specs.Machine.{outcomes, is_claimed, is_done_at, claimed, given_back, IsReady}
+use Rattle.stage_core.specs.Machine.{outcomes, is_claimed, is_done_at, claimed, given_back, has_final, IsOpen, IsReady}
 use Rattle.script_cache.proofs.Logged.{claim_logged}
 use Rattle.stage_core.proofs.Grow.{outcomes-push, known_stays, needs_stay}
 
@@ -56,3 +57,20 @@ module _ {O P : Type 0} (g : Ghosts O P) where
   given_back_logged s t log file stage is e =
       let c = claimed s file stage in
       claim_logged s log file stage (e ∙ (ap (λ u. u.log) is ∙ elim (nat_le stage (length (outcomes c.log file))) as (λ b. (cond b c (record c { in_progress = slice_set c.in_progress file 0 })).log ≡ c.log) [ true ↦ refl | false ↦ refl ]))
+
+  open_ready : (log : List (Entry O)) (left : List ℕ) (file stage : ℕ) → IsOpen g log file stage → nat_le stage (length (outcomes log file)) ≡ false → slice_index left file ≡ 0 → IsReady g log left file stage
+  unfolding is_done_at
+  open_ready log left file stage o e free =
+      let next : stage ≡ length (outcomes log file) + 1 = let begun = o.begun in grind (arith, nat_tests) in
+      let whole : take (stage - 1) (outcomes log file) ≡ outcomes log file = take_all (stage - 1) (outcomes log file) (omega arith) in
+      let none : has_final (outcomes log file) ≡ false = subst (λ os. has_final os ≡ false) whole o.earlier_done in
+      let five = o.to_five in
+      record { known = o.known; next = next; unfinished = grind (arith, nat_tests); free = free; needs = o.needs }
+
+  -- what a task that is given back is then
+  pub stands : (s t : State P O) (log : List (Entry O)) (file stage : ℕ) → t ≡ given_back s file stage → log ≡ t.log → IsOpen g s.log file stage → IsReady g log t.in_progress file stage ⊎ (stage ≤ length (outcomes log file))
+  stands s t log file stage is e o =
+      rw (e, is) (elim (nat_le stage (length (outcomes s.log file))) as (λ b. nat_le stage (length (outcomes s.log file)) ≡ b → IsReady g (cond b s (record s { in_progress = slice_set s.in_progress file 0 })).log (cond b s (record s { in_progress = slice_set s.in_progress file 0 })).in_progress file stage ⊎ (stage ≤ length (outcomes (cond b s (record s { in_progress = slice_set s.in_progress file 0 })).log file))) [
+        | true ↦ λ h. inr (grind (arith, nat_tests))
+        | false ↦ λ h. inl (open_ready s.log (slice_set s.in_progress file 0) file stage o h (cleared s.in_progress file))
+      ] refl)

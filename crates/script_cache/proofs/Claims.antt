@@ -1,19 +1,19 @@
 -- What an entry that claims leaves to its pass.
-use Rattle.std.proofs.Common.{◌≡◌, ◌∙◌, ℕ, ◌<◌, List, [], Some, Result, Ok, Err, length, ap, sym, arith}
+use Rattle.std.proofs.Common.{◌≡◌, ◌∙◌, ℕ, ◌<◌, List, [], ◌∷◌, Some, Result, Ok, Err, length, ap, sym, subst, arith}
 use Rattle.std.specs.Result.{IfOk}
 use mathlib.Core.List.{IsPrefix}
 use Rattle.stage_core.specs.declared.work.StageOut.{Ghosts}
 use Rattle.stage_core.specs.declared.log.Entry.{Entry}
 use Rattle.stage_core.specs.CoreState.{Task}
-use Rattle.stage_core.specs.Log.{State, Event}
+use Rattle.stage_core.specs.Log.{State, Event, GivesBack}
 use Rattle.stage_core.specs.Machine.{outcomes, claimed, IsReady}
 use Rattle.stage_core.proofs.Logs.{begins_from_prefix}
 use Rattle.turn_lock.specs.declared.lock.Pass.{Pass}
 use Rattle.turn_lock.specs.Passes.{seen_by, left_by, splits_of}
 use Rattle.script_cache.specs.declared.errors.NoRaise.{NoRaise}
 use Rattle.script_cache.specs.declared.shared_core.SharedCore.{SharedCore}
-use Rattle.script_cache.specs.Entries.{HasClaimed, IsTaskOfPass}
-use Rattle.script_cache.proofs.Logged.{begins_same, outcomes_grow}
+use Rattle.script_cache.specs.Entries.{HasClaimed, HasMade, HasRetried, IsBack, IsTaskOfPass}
+use Rattle.script_cache.proofs.Logged.{begins_same, claim_logged, claimed_later, outcomes_grow}
 
 module _ {O P : Type 0} (g : Ghosts O P) (project : P) (p q : Pass (SharedCore O P) P (Entry O) (List ℕ)) where
   -- the core was `before` and is `after`
@@ -38,3 +38,14 @@ module _ {O P : Type 0} (g : Ghosts O P) (project : P) (p q : Pass (SharedCore O
   -- the task was not published in what the pass had seen
   pub claimed_past : (file stage : ℕ) (events : List (Event O)) → HasClaimed g project file stage events p q → length (outcomes (seen_by p) file) < stage
   claimed_past file stage events h = omega (arith, h.ready.next, outcomes_grow (seen_by p) h.before.log file (begins_from_prefix (seen_by p) h.before.log h.entry.seen))
+
+  pub retried : (between : Pass (SharedCore O P) P (Entry O) (List ℕ)) (job back : Task P O) → back ≡ job → HasClaimed g project job.file job.stage [] p between → HasMade project (GivesBack back.file back.stage ∷ []) between q → IsBack g back.file back.stage q → IsPrefix (seen_by between) (seen_by q) → HasRetried g project p q
+  retried between job back same claimed given stands grows = record {
+    between = between;
+    file = job.file;
+    stage = job.stage;
+    claimed = claimed;
+    given_back = subst (λ j. HasMade project (GivesBack j.file j.stage ∷ []) between q) same given;
+    logged = claimed_later (seen_by between) (seen_by q) job.file job.stage grows (claim_logged claimed.before (seen_by between) job.file job.stage claimed.entry.log);
+    back = subst (λ j. IsBack g j.file j.stage q) same stands;
+  }

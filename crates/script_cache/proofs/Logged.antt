@@ -1,5 +1,6 @@
 -- What stands in a log after an event.
-use Rattle.std.proofs.Common.{◌≡◌, ℕ, ◌+◌, ◌<◌, ◌≤◌, true, false, cond, nat_le, List, [], ◌∷◌, ◌++◌, length, slice_set, ◌∙◌, refl, sym, ap, subst, subst₂, arith, append-nil, length-append}
+use Rattle.std.proofs.Common.{◌≡◌, ℕ, ◌+◌, ◌≤◌, true, false, cond, nat_le, List, [], ◌∷◌, ◌++◌, length, slice_set, ◌∙◌, refl, ap, subst₂, arith, append-nil, length-append}
+use mathlib.Core.List.{IsPrefix}
 use Rattle.std.proofs.lemmas.Bool.Decides.{nat_tests}
 use Rattle.std.proofs.lemmas.List.Folds.{list_any-append}
 use Rattle.stage_core.specs.declared.log.Entry.{Entry}
@@ -56,3 +57,7 @@ outcomes_grow log later file b =
 
 pub begins_same : {X : Type 0} (xs ys : List X) → xs ≡ ys → Begins xs ys
 begins_same xs ys e = record { rest = []; joins = append-nil xs ∙ e }
+
+pub claimed_later : {O : Type 0} (log later : List (Entry O)) (file stage : ℕ) → IsPrefix log later → is_claimed log file stage ≡ true → is_claimed later file stage ≡ true
+unfolding is_claimed
+claimed_later log later file stage p h = rw (← p.1) (grind (arith, list_any-append (is_claim_of file stage) log p.0))

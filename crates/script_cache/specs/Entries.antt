@@ -1,5 +1,5 @@
 -- What the entries of a cache leave to their passes.
-use Rattle.std.specs.Prelude.{◌≡◌, ℕ, ◌⊎◌, true, List, [], ◌∷◌, Some}
+use Rattle.std.specs.Prelude.{◌≡◌, ℕ, ◌≤◌, ◌⊎◌, true, List, [], ◌∷◌, length, Some}
 use mathlib.Core.List.{IsPrefix}
 use Rattle.stage_core.specs.declared.work.StageOut.{Ghosts}
 use Rattle.stage_core.specs.Begins.{Begins}
@@ -45,6 +45,12 @@ module _ {O P : Type 0} where
 -- each known file is finished in the log
 abbrev pub AreAllDone : {O P : Type 0} → Ghosts O P → List (Entry O) → Type 0
 AreAllDone g log = (file : ℕ) → IsKnown g log file → is_done_at (outcomes log file) 5 ≡ true
+
+-- by the log that the pass has seen and the tasks under way that it has left, the task is ready again, or its stage is in the log
+pub record IsBack {O P : Type 0} (g : Ghosts O P) (file stage : ℕ) (q : Pass (SharedCore O P) P (Entry O) (List ℕ)) : Type 0 where
+  pub in_progress : List ℕ
+  pub left : left_by q ≡ Some in_progress
+  pub stands : IsReady g (seen_by q) in_progress file stage ⊎ (stage ≤ length (outcomes (seen_by q) file))
 
 module _ {O P : Type 0} (g : Ghosts O P) (project : P) where
   -- one entry requested the path's file, and the log has the request
@@ -92,10 +98,12 @@ module _ {O P : Type 0} (g : Ghosts O P) (project : P) where
     pub value : HoldsValue g project file stage outcome
     pub published : HasMade project (Publishes file stage outcome ∷ []) between q
 
-  -- one entry claimed a task, and a second one gave it back
+  -- One entry claimed a task, and a second one gave it back. The task's first claim is in the log that the pass has then seen
   pub record HasRetried (p q : Pass (SharedCore O P) P (Entry O) (List ℕ)) : Type 0 where
     pub between : Pass (SharedCore O P) P (Entry O) (List ℕ)
     pub file : ℕ
     pub stage : ℕ
     pub claimed : HasClaimed file stage [] p between
     pub given_back : HasMade project (GivesBack file stage ∷ []) between q
+    pub logged : is_claimed (seen_by q) file stage ≡ true
+    pub back : IsBack g file stage q

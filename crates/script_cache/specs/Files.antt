@@ -1,5 +1,5 @@
 -- The files that paths name, and what a log says of them.
-use Rattle.std.specs.Prelude.{◌≡◌, ℕ, ◌<◌, List, Result, MatchResult, true, false}
+use Rattle.std.specs.Prelude.{◌≡◌, ℕ, ◌<◌, List, true, false}
 use Rattle.stage_core.specs.declared.work.StageOut.{Ghosts}
 use Rattle.stage_core.specs.declared.status.RefStatus.{RefStatus}
 use Rattle.stage_core.specs.declared.answer.Answer.{Answer}

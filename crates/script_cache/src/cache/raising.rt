@@ -4,7 +4,7 @@ ghost use mathlib.Core.List.{IsPrefix};
 ghost use Rattle.stage_core.specs.Log.{Publishes, GivesBack};
 ghost use Rattle.stage_core.specs.Machine.{outcomes};
 ghost use Rattle.turn_lock.specs.Passes.{seen_by};
-ghost use Rattle.script_cache.specs.Entries.{IsCachePass, IsTaskOfPass, HasMade, HasClaimed, HasGivenBack, HasRaised, HasRetried, FindsAllDone, FindsNothing};
+ghost use Rattle.script_cache.specs.Entries.{IsCachePass, IsTaskOfPass, HasMade, HasClaimed, HasGivenBack, IsBack, HasRaised, HasRetried, FindsAllDone, FindsNothing};
 
 use super::tasks::claim_job;
 use super::{CachePass, ScriptCache};
@@ -70,6 +70,7 @@ impl<W: StageWork> ScriptCache<W> {
         ensures pass { IsCachePass self.now.lock pass.new }
         ensures seen { IsPrefix (seen_by pass.old) (seen_by pass.new) }
         ensures given_back { HasMade (W.project self.now.work) (GivesBack job.file job.stage ∷ []) pass.old pass.new }
+        ensures back { IsBack W.Out.StageOut job.file job.stage pass.new }
     {
         let mut turn = self.lock.enter(rt, pass);
         let Job { claim, needs: _ } = job;

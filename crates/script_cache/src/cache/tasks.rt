@@ -5,7 +5,7 @@ ghost use Rattle.stage_core.specs.Begins.{Begins};
 ghost use Rattle.stage_core.specs.Log.{Publishes, GivesBack};
 ghost use Rattle.stage_core.specs.Machine.{claimed, given_back, outcomes, is_claimed, HoldsValue, IsReady};
 ghost use Rattle.turn_lock.specs.Passes.{seen_by, lost_by};
-ghost use Rattle.script_cache.specs.Entries.{AreAllDone, IsCachePass, IsHeldOut, IsTaskOfPass, HasMade, HasClaimed, HasGivenBack, FindsAllDone, FindsNothing};
+ghost use Rattle.script_cache.specs.Entries.{AreAllDone, IsCachePass, IsHeldOut, IsTaskOfPass, HasMade, HasClaimed, HasGivenBack, IsBack, FindsAllDone, FindsNothing};
 
 use super::{CachePass, ScriptCache};
 use crate::errors::{ClaimError, NoRaise};
@@ -126,6 +126,7 @@ impl<W: StageWork> ScriptCache<W> {
         ensures pass { IsCachePass self.now.lock pass.new }
         ensures seen { IsPrefix (seen_by pass.old) (seen_by pass.new) }
         ensures given_back { OnOk result (HasMade (W.project self.now.work) (GivesBack job.file job.stage ∷ []) pass.old pass.new) }
+        ensures stands { OnOk result (IsBack W.Out.StageOut job.file job.stage pass.new) }
         ensures unlost { OnOk result (lost_by pass.new ≡ lost_by pass.old) }
         ensures back { IfErr result (λ back. back ≡ job) }
         ensures held { IfErr result (λ _. IsHeldOut self.now.lock pass.old pass.new) }

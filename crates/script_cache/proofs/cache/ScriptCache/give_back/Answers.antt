@@ -1,4 +1,5 @@
-use Rattle.std.proofs.Common.{rules}
+use Rattle.std.proofs.Common.{rules, ap, ◌≡◌}
+use Rattle.script_cache.proofs.Again.{stands}
 use Rattle.script_cache.proofs.cache.ScriptCache.give_back.Goals as goal
 
 pub returns-clause-given_back : goal.returns-clause-given_back
@@ -12,3 +13,13 @@ returns-clause-given_back g c = record {
     splits = search rules;
   };
 }
+
+pub returns-clause-back : goal.returns-clause-back
+returns-clause-back g c =
+    let file : c.job.inside.claim.file ≡ c.args.job.file = ap (λ j. j.file) c.job.view_is in
+    let stage : c.job.inside.claim.stage ≡ c.args.job.stage = ap (λ j. j.stage) c.job.view_is in
+    rw (← file, ← stage) (record {
+      in_progress = c.give_back.new.self.in_progress;
+      left = search rules;
+      stands = stands g.W.Out.StageOut c.value.result.now.core c.give_back.new.self _ _ _ c.give_back.ensures.after (search rules) c.stays_open.ensures.«open»;
+    })
