@@ -1,0 +1,5 @@
+pub mod Classes
+pub mod Keys
+pub mod Places
+pub mod Heaps
+pub mod Sweeps

@@ -1,0 +1,10 @@
+//! Values of the language, and the cells of the heap as plain data.
+#![tactic(auto)]
+
+pub mod cells;
+pub mod classes;
+pub mod entries;
+pub mod faults;
+pub mod texts;
+pub mod values;
+pub mod weights;
