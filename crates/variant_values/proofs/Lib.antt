@@ -1,4 +1,6 @@
 pub mod KeyLemmas
+pub mod Rooms
+pub mod Knowing
 pub mod Sums
 pub mod Sweeping
 pub mod Once

@@ -21,3 +21,10 @@ is_ref_counted Object = false
 is_ref_counted RefCounted = true
 is_ref_counted Node = false
 is_ref_counted (Script c) = false
+
+-- whether a class is Node
+abbrev pub is_node_class : ClassTag → Bool
+is_node_class Object = false
+is_node_class RefCounted = false
+is_node_class Node = true
+is_node_class (Script c) = false

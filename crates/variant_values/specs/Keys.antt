@@ -19,3 +19,8 @@ same_key _ _ = false
 abbrev pub with_entry : List (Key × Value) → Key → Value → List (Key × Value)
 with_entry [] k v = (k, v) ∷ []
 with_entry (e ∷ es) k v = cond (same_key k e.0) ((e.0, v) ∷ es) (e ∷ with_entry es k v)
+
+-- the entries without a key
+abbrev pub without_entry : List (Key × Value) → Key → List (Key × Value)
+without_entry [] k = []
+without_entry (e ∷ es) k = cond (same_key k e.0) es (e ∷ without_entry es k)

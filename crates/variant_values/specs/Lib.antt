@@ -3,3 +3,5 @@ pub mod Keys
 pub mod Places
 pub mod Heaps
 pub mod Sweeps
+pub mod Links
+pub mod Trees

@@ -1,5 +1,5 @@
 -- Where a cell is held, what it weighs, and whether a sweep may take it.
-use Rattle.std.specs.Prelude.{not, is_some, ◌&&◌, ℕ, ◌+◌, Bool, true, false, cond, nat_eq, List, length, Option, Some, None}
+use Rattle.std.specs.Prelude.{nat_le, ◌-◌, not, is_some, ◌&&◌, ℕ, ◌+◌, Bool, true, false, cond, nat_eq, List, length, Option, Some, None}
 use Rattle.std.specs.List.{sum_by, list_any}
 use Rattle.variant_values.specs.declared.values.Value.{Value}
 use Rattle.variant_values.specs.declared.values.Value.TheVariants.{Null, Bool as Truth, Int, Str, Array, Dict, Object, Callable, Signal, Class, Scene, Weak}
@@ -95,6 +95,10 @@ abbrev pub cell_weight : Cell → ℕ
 cell_weight (ArrayCell vs of) = 16 + sum_by item_weight vs
 cell_weight (DictCell es) = 16 + sum_by entry_weight es
 cell_weight (ObjectCell o) = 16 + sum_by item_weight o.fields
+
+-- what a weight leaves of so much room, where it has it
+abbrev pub room_left : ℕ → ℕ → Option ℕ
+room_left room weight = cond (nat_le weight room) (Some (room - weight)) None
 
 abbrev pub slot_weight : Option Cell → ℕ
 slot_weight None = 0

@@ -1,4 +1,4 @@
-ghost use Rattle.std.specs.Prelude.{◌≡◌, ◌<◌, ◌++◌, ◌∷◌, length, [], slice_get, slice_set, OnOk, OnErr, Some};
+ghost use Rattle.std.specs.Prelude.{◌≡◌, ◌<◌, ◌≤◌, ◌+◌, take, drop, ◌++◌, ◌∷◌, length, [], slice_get, slice_set, OnOk, OnErr, Some};
 
 use crate::classes::{ElementTag, Lineage};
 use crate::entries::Entries;
@@ -87,6 +87,12 @@ pub enum Cell {
 }
 
 impl Values {
+    pub fn of(items: Vec<Value>) -> Values
+        ensures { result ≡ items.items }
+    {
+        Values { items }
+    }
+
     pub fn new(alloc: Global) -> Values
         ensures { result ≡ [] }
     {
@@ -122,6 +128,30 @@ impl Values {
     {
         self.items.push(v)?;
         Ok(())
+    }
+}
+
+impl Values {
+    /// Puts values in before the one at an index, or last.
+    pub fn put_in(&mut self, at: usize, mut put: Vec<Value>) -> Result<(), AllocError>
+        requires { at ≤ length self.old }
+        ensures ok { OnOk result (self.new ≡ take at self.old ++ put.items ++ drop at self.old) }
+        ensures err { OnErr result (self.new ≡ self.old) }
+    {
+        let count = put.len();
+        self.items.append(&mut put)?;
+        self.items.as_mut_slice()[at..].rotate_right(count);
+        Ok(())
+    }
+
+    /// Takes out so many values from an index on.
+    pub fn take_out(&mut self, at: usize, out: usize)
+        requires { at + out ≤ length self.old }
+        ensures { self.new ≡ take at self.old ++ drop (at + out) self.old }
+    {
+        let left = self.items.len() - out;
+        self.items.as_mut_slice()[at..].rotate_left(out);
+        self.items.truncate(left);
     }
 }
 

@@ -1,11 +1,11 @@
 ghost use Rattle.std.specs.Prelude.{◌≡◌, ◌<◌, ◌^◌, length, [], slice_get, OnOk, OnErr, IfOk, Some, option_copied};
 ghost use Rattle.std.specs.List.{sum_by};
-ghost use Rattle.std.specs.Map.{lookup, remove_entry};
-ghost use Rattle.variant_values.specs.Places.{entry_weight};
-ghost use Rattle.variant_values.specs.Keys.{same_key, with_entry};
+ghost use Rattle.std.specs.Map.{lookup};
+ghost use Rattle.variant_values.specs.Places.{entry_weight, room_left};
+ghost use Rattle.variant_values.specs.Keys.{same_key, with_entry, without_entry};
 
 use crate::values::{Key, Value};
-use crate::weights::{key_weight, text_weight};
+use crate::weights::entry_weight;
 use indexmap::IndexMap;
 use std::alloc::{AllocError, Global};
 use std::marker::Model;
@@ -68,15 +68,39 @@ impl Entries {
         Ok(self.map.insert(key, to)?)
     }
 
+    /// Takes a key out, and hands out its value. The later entries keep their order.
+    pub fn remove(&mut self, key: &Key) -> Option<Value>
+        ensures value { result ≡ lookup (same_key key.now) self.old }
+        ensures new { self.new ≡ without_entry self.old key.now }
+    {
+        self.map.shift_remove(key)
+    }
+
+    /// What is left of so much room, where the entries have it.
+    pub fn room_left(&self, room: u64) -> Option<u64>
+        ensures { result ≡ room_left room (sum_by entry_weight self.now) }
+    {
+        let mut left = room;
+        for i in 0..self.len() {
+            let (key, value) = self.entry_at(i);
+            let weight = entry_weight(key, value);
+            if weight > left as u128 {
+                return None;
+            }
+            left -= weight as u64;
+        }
+        Some(left)
+    }
+
     /// What the entries weigh.
-    pub fn weight(&self) -> usize
+    pub fn weight(&self) -> u64
         requires { sum_by entry_weight self.now < 2 ^ 63 }
         ensures { result ≡ sum_by entry_weight self.now }
     {
         let mut total = 0;
         for i in 0..self.len() {
             let (key, value) = self.entry_at(i);
-            total += 4 + (key_weight(key) + text_weight(value));
+            total += entry_weight(key, value) as u64;
         }
         total
     }
