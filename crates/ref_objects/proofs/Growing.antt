@@ -14,7 +14,7 @@ use Rattle.variant_values.specs.declared.cells.Cell.{Cell}
 use Rattle.variant_values.specs.declared.cells.Cell.TheVariants.{Array as ArrayCell, Dict as DictCell, Object as ObjectCell}
 use Rattle.variant_values.specs.Places.{place_of, key_place, one_at, in_value, in_entry, in_cell, in_slot, in_cells, cell_weight, slot_weight, weight}
 use Rattle.variant_values.specs.Heaps.{cell_at, is_array, is_dict, is_no_container, knows, knows_key, knows_object, KnowsCell, KnowsSlot}
-use Rattle.ref_objects.specs.declared.counts.Slot.{Slot}
+use Rattle.ref_objects.specs.declared.slots.Slot.{Slot}
 use Rattle.ref_objects.specs.Slots.{gone, slot_at, count_at, cells_of, lives, held_of, IsKept, IsRaised, IsGrown, IsCellWithin}
 use Rattle.ref_objects.proofs.Raising.{lives-cells}
 use Rattle.ref_objects.proofs.Holding.{held_is, length-held_of, get_or-held_of, lives_within}

@@ -11,8 +11,9 @@ use Rattle.variant_values.specs.declared.values.Key.TheVariants.{Bool as KeyTrut
 use Rattle.variant_values.specs.declared.cells.Cell.{Cell}
 use Rattle.variant_values.specs.declared.cells.Cell.TheVariants.{Array as ArrayCell, Dict as DictCell, Object as ObjectCell}
 use Rattle.variant_values.specs.Places.{in_slot, slot_weight, weight}
+use Rattle.variant_values.proofs.Knowing.{IsAlike, slot_alike}
 use Rattle.variant_values.specs.Heaps.{cell_at, is_array, is_dict, is_no_container, knows, knows_key, knows_object, KnowsSlot}
-use Rattle.ref_objects.specs.declared.counts.Slot.{Slot}
+use Rattle.ref_objects.specs.declared.slots.Slot.{Slot}
 use Rattle.ref_objects.specs.Slots.{count_at, cells_of, lives, held_of, IsKept}
 use Rattle.ref_objects.proofs.Raising.{lives-cells}
 use Rattle.ref_objects.proofs.Following.{IsFollowed, followed_held, followed_kept}
@@ -54,7 +55,6 @@ module _ (a c : List Slot) (x : ℕ) (t : Option Cell) (s : IsSwapped a c x t) w
     living = λ y l. sym (swapped_lives y) ∙ l;
     counts = λ y l. rw s.cells (omega (arith, s.counts y (sym (swapped_lives y) ∙ l), sum_by-set (in_slot y) (cells_of a) x t None within));
     gone = λ y l. s.gone y (sym (swapped_lives y) ∙ l) ∙ k.gone y (sym (swapped_lives y) ∙ l);
-    unheld = λ y l. omega (arith, k.gone y (sym (swapped_lives y) ∙ l));
   }
 
   pub swapped_alike : IsAlike (cells_of a) (cells_of c)
@@ -78,7 +78,7 @@ module _ (a c : List Slot) (x : ℕ) (t : Option Cell) (s : IsSwapped a c x t) w
       ])
 
   pub swapped_held : (total : ℕ) → IsKept a total → held_of c ≡ held_of a
-  swapped_held total k = followed_held a c total k (swapped_followed total k)
+  swapped_held total k = followed_held a c total k (swapped_followed total k) (λ y l. omega (arith, k.gone y (sym (swapped_lives y) ∙ l)))
 
   pub swapped_kept : (total total' : ℕ) → IsKept a total → KnowsSlot (cells_of a) t → total' + slot_weight (cell_at (cells_of a) x) ≡ total + slot_weight t → total' ≤ 67108864 → IsKept c total'
   swapped_kept total total' k n w light = followed_kept a c total total' k (swapped_followed total k) (omega (arith, w, swapped_weight, k.weighed)) light (swapped_known total k n)

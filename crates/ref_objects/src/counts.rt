@@ -1,19 +1,11 @@
-ghost use Rattle.std.specs.Prelude.{◌≡◌, ◌+◌, ◌<◌, ◌≤◌, ◌^◌, length, take, ℕ, true, false, All, IfSome, IfNone, None, slice_set};
-ghost use Rattle.variant_values.specs.Places.{place_of, key_place, one_at, in_entries, in_value, in_values, in_cell};
-ghost use Rattle.variant_values.specs.Heaps.{cell_at};
-ghost use Rattle.ref_objects.specs.Slots.{count_at, is_zero, IsTaken, slot_at, cells_of, held_of, IsKept, IsCellWithin, lives, IsRaised, IsLowered};
+ghost use Rattle.std.specs.Prelude.{◌≡◌, ◌+◌, ◌<◌, ◌≤◌, ◌^◌, length, ℕ, true, All};
+ghost use Rattle.variant_values.specs.Places.{place_of, key_place, one_at, in_entries, in_values, in_cell};
+ghost use Rattle.ref_objects.specs.Slots.{count_at, IsCellWithin, lives, IsRaised, IsLowered};
 
+use crate::slots::Slot;
 use variant_values::cells::Cell;
 use variant_values::entries::Entries;
 use variant_values::values::{Key, Value};
-use variant_values::weights::{cell_weight, is_counted};
-
-/// A cell, where it lives, and how many places hold it.
-#[derive(Drop)]
-pub struct Slot {
-    pub(crate) cell: Option<Cell>,
-    pub(crate) count: u128,
-}
 
 /// The serial of the cell that a value holds, or 0.
 pub fn place_of(v: &Value) -> u64
@@ -139,63 +131,4 @@ pub fn lower_cell(slots: &mut Vec<Slot>, cell: &Cell)
         Cell::Dict(entries) => lower_entries(slots, entries),
         Cell::Object(o) => lower_values(slots, o.fields.as_slice()),
     }
-}
-
-/// Whether a living counted cell is held by nothing.
-pub fn is_zero(slot: &Slot) -> bool
-    ensures { result ≡ is_zero slot.now }
-{
-    match &slot.cell {
-        None => false,
-        Some(cell) => is_counted(cell) && slot.count == 0,
-    }
-}
-
-/// A counted cell that nothing holds.
-pub fn find_zero(slots: &[Slot]) -> Option<usize>
-    ensures found { IfSome result (λ x. is_zero (slot_at slots.now x) ≡ true) }
-    ensures none { IfNone result ((x : ℕ) → is_zero (slot_at slots.now x) ≡ false) }
-{
-    slots.iter().position(|s| is_zero(s))
-}
-
-/// Takes the cell out of its slot.
-pub fn take_cell(slots: &mut Vec<Slot>, x: usize) -> Option<Cell>
-    requires { x < length slots.old.items }
-    ensures cell { result ≡ cell_at (cells_of slots.old.items) x }
-    ensures slots { slots.new.items ≡ slice_set slots.old.items x (record (slot_at slots.old.items x) { cell = None }) }
-{
-    slots[x].cell.take()
-}
-
-/// Takes a cell away that nothing holds, and answers what is left of the weight.
-pub fn take_away(slots: &mut Vec<Slot>, x: usize, total: u64) -> u64
-    requires kept { IsKept slots.old.items total }
-    requires zero { is_zero (slot_at slots.old.items x) ≡ true }
-    ensures kept { IsKept slots.new.items result }
-    ensures cells { cells_of slots.new.items ≡ slice_set (cells_of slots.old.items) x None }
-    ensures held { held_of slots.new.items ≡ held_of slots.old.items }
-    ensures less { result < total }
-{
-    match take_cell(slots, x) {
-        None => total,
-        Some(cell) => {
-            lower_cell(slots, &cell);
-            total - cell_weight(&cell) as u64
-        }
-    }
-}
-
-/// Takes away what nothing holds, until there is none, and answers what is left of the weight.
-pub fn take_zeros(slots: &mut Vec<Slot>, total: u64) -> u64
-    requires { IsKept slots.old.items total }
-    ensures kept { IsKept slots.new.items result }
-    ensures held { held_of slots.new.items ≡ held_of slots.old.items }
-    ensures taken { IsTaken slots.old.items slots.new.items }
-{
-    let mut left = total;
-    while let Some(x) = find_zero(slots.as_slice()) {
-        left = take_away(slots, x, left);
-    }
-    left
 }

@@ -1,15 +1,16 @@
-ghost use Rattle.std.specs.Prelude.{◌≡◌, ◌<◌, length, Some, None, is_some, true, false, option_copied, ◌≤◌, ◌↔◌, Err, IfOk, OnOk, OnErr, IfErr, slice_set, ◌++◌, ◌∷◌, [], ◌+◌, ◌^◌};
-ghost use Rattle.variant_values.specs.Heaps.{knows, KnowsCell, cell_at, field_in, field_put};
+ghost use Rattle.std.specs.Prelude.{◌≡◌, ◌<◌, length, Some, None, is_some, true, false, option_copied, ◌≤◌, ◌↔◌, Err, IfOk, OnErr, slice_set};
+ghost use Rattle.variant_values.specs.Heaps.{knows, cell_at, field_in, field_put};
 ghost use Rattle.std.specs.Option.{option_map};
-ghost use Rattle.variant_values.specs.Places.{item_weight, cell_weight, weight};
-ghost use Rattle.ref_objects.specs.Slots.{cells_of, gone, lives, IsKept, IsPut, IsNow, IsGrown};
+ghost use Rattle.variant_values.specs.Places.{item_weight, weight};
+ghost use Rattle.ref_objects.specs.Slots.{cells_of, lives, IsKept, IsPut, IsNow};
 
-use crate::counts::{Slot, lower, place_of, raise, raise_cell, take_cell};
-use crate::links::put_cell;
+use crate::allocate::LIMIT;
+use crate::counts::{lower, place_of, raise};
+use crate::slots::{Slot, put_cell, take_cell};
 use variant_values::cells::Cell;
 use variant_values::faults::{RunFault, Trouble};
 use variant_values::values::Value;
-use variant_values::weights::{cell_weight, text_weight};
+use variant_values::weights::item_weight;
 
 /// The field of an object, where it lives.
 pub fn field_at(slots: &[Slot], x: usize, index: usize) -> Option<&Value>
@@ -29,7 +30,7 @@ pub fn field_weight(slots: &[Slot], x: usize, index: usize) -> Option<u64>
     ensures { result ≡ option_map item_weight (field_in (cell_at (cells_of slots.now) x) index) }
 {
     match field_at(slots, x, index) {
-        Some(v) => Some(2 + text_weight(v) as u64),
+        Some(v) => Some(item_weight(v)),
         None => None,
     }
 }
@@ -58,61 +59,25 @@ pub fn store_field(
     index: usize,
     to: Value,
     total: u64,
-) -> Result<u64, RunFault>
+) -> Result<u64, Trouble>
     requires kept { IsKept slots.old.items total }
     requires within { x < length slots.old.items }
     requires field { lives slots.old.items x ≡ true → is_some (field_in (cell_at (cells_of slots.old.items) x) index) ≡ true }
     requires to { knows (cells_of slots.old.items) to ≡ true }
-    ensures gone { (result ≡ Err RunFault.FreedAccess) ↔ (lives slots.old.items x ≡ false) }
-    ensures full { (result ≡ Err RunFault.HeapFull) ↔ ((lives slots.old.items x ≡ true) × (67108864 < weight (slice_set (cells_of slots.old.items) x (field_put index to (cell_at (cells_of slots.old.items) x))))) }
+    ensures gone { (result ≡ Err (Trouble.Fault RunFault.FreedAccess)) ↔ (lives slots.old.items x ≡ false) }
+    ensures full { (result ≡ Err (Trouble.Fault RunFault.HeapFull)) ↔ ((lives slots.old.items x ≡ true) × (67108864 < weight (slice_set (cells_of slots.old.items) x (field_put index to (cell_at (cells_of slots.old.items) x))))) }
     ensures ok { IfOk result (λ left. IsNow slots.old.items slots.new.items left (slice_set (cells_of slots.old.items) x (field_put index to (cell_at (cells_of slots.old.items) x)))) }
     ensures err { OnErr result (slots.new.items ≡ slots.old.items) }
 {
     let Some(light) = field_weight(slots.as_slice(), x, index) else {
-        return Err(RunFault::FreedAccess);
+        return Err(Trouble::Fault(RunFault::FreedAccess));
     };
-    let left = total - light + (2 + text_weight(&to) as u64);
-    if left > 67_108_864 {
-        return Err(RunFault::HeapFull);
+    let left = total - light + item_weight(&to);
+    if left > LIMIT {
+        return Err(Trouble::Fault(RunFault::HeapFull));
     }
     raise(slots, place_of(&to) as usize);
     let before = swap_field(slots, x, index, to);
     lower(slots, place_of(&before) as usize);
-    Ok(left)
-}
-
-/// One slot more, with no cell.
-pub fn add_slot(slots: &mut Vec<Slot>) -> Result<(), Trouble>
-    ensures ok { OnOk result (slots.new.items ≡ slots.old.items ++ gone ∷ []) }
-    ensures err { OnErr result (slots.new.items ≡ slots.old.items) }
-    ensures memory { IfErr result (λ e. e ≡ Trouble.NoMemory) }
-{
-    let pushed = slots.push(Slot {
-        cell: None,
-        count: 0,
-    });
-    match pushed {
-        Ok(()) => Ok(()),
-        Err(_) => Err(Trouble::NoMemory),
-    }
-}
-
-/// Gives a cell the next serial, and answers the weight then.
-pub fn add_cell(slots: &mut Vec<Slot>, cell: Cell, total: u64) -> Result<u64, Trouble>
-    requires kept { IsKept slots.old.items total }
-    requires known { KnowsCell (cells_of slots.old.items) cell }
-    requires light { cell_weight cell < 2 ^ 63 }
-    ensures full { (result ≡ Err (Trouble.Fault RunFault.HeapFull)) ↔ (67108864 < weight (cells_of slots.old.items) + cell_weight cell) }
-    ensures ok { IfOk result (λ left. IsGrown slots.old.items slots.new.items left cell) }
-    ensures err { OnErr result (slots.new.items ≡ slots.old.items) }
-{
-    let left = total + cell_weight(&cell) as u64;
-    if left > 67_108_864 {
-        return Err(Trouble::Fault(RunFault::HeapFull));
-    }
-    let x = slots.len();
-    add_slot(slots)?;
-    raise_cell(slots, &cell);
-    put_cell(slots, x, cell);
     Ok(left)
 }

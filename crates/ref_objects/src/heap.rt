@@ -1,11 +1,14 @@
-ghost use Rattle.std.specs.Prelude.{◌≡◌, ◌+◌, ◌<◌, ◌≤◌, ◌^◌, length, true, false, is_some, Err, OnOk, OnErr, IfOk, option_copied, if◌then◌else◌, ◌↔◌};
+ghost use Rattle.std.specs.Prelude.{◌≡◌, ◌+◌, ◌<◌, ◌≤◌, ◌^◌, length, true, false, is_some, Err, OnOk, OnErr, IfOk, option_copied, if◌then◌else◌, ◌↔◌, ◌⊎◌};
 ghost use Rattle.variant_values.specs.Places.{place_of, weight, cell_weight};
-ghost use Rattle.variant_values.specs.Heaps.{IsSound, empty_heap, with_new, KnowsCell, knows, knows_object, cell_at, field_in, with_field, is_living, held_at, retained, released};
+ghost use Rattle.variant_values.specs.Heaps.{empty_heap, with_new, IsFresh, KnowsCell, knows, knows_object, cell_at, field_in, with_field, is_living, held_at, retained, released};
 ghost use Rattle.variant_values.specs.Sweeps.{IsSwept, swept};
 
-use crate::counts::{Slot, lower, place_of, raise, take_zeros};
-use crate::fields::{add_cell, store_field};
-use crate::links::{cut_all, lives};
+use crate::allocate::add_cell;
+use crate::counts::{lower, place_of, raise};
+use crate::fields::store_field;
+use crate::links::cut_all;
+use crate::slots::{Slot, lives};
+use crate::sweeps::take_zeros;
 use std::alloc::{AllocError, Global};
 use std::marker::Model;
 use variant_values::cells::Cell;
@@ -22,13 +25,13 @@ pub struct Heap {
 
 impl Model for Heap {
     ghost use Rattle.variant_values.specs.Heaps.{Heap as AHeap};
-    ghost use Rattle.ref_objects.specs.Slots.{IsKept, heap_of};
+    ghost use Rattle.ref_objects.specs.Slots.{IsSteady, heap_of};
 
     ghost Value = { AHeap };
 
     ghost view = { λ h. heap_of h.slots.items h.queued.items };
 
-    ghost invariant = { λ h. IsKept h.slots.items h.total };
+    ghost invariant = { λ h. IsSteady h.slots.items h.total };
 }
 
 impl Heap {
@@ -37,7 +40,6 @@ impl Heap {
         requires known { knows self.old.cells v.now ≡ true }
         requires few { held_at self.old (place_of v.now) < 2 ^ 100 }
         ensures after { self.new ≡ retained self.old v.now }
-        ensures sound { IsSound self.new }
     {
         raise(&mut self.slots, place_of(v) as usize);
     }
@@ -47,7 +49,6 @@ impl Heap {
         requires known { knows self.old.cells v.now ≡ true }
         requires held { is_living self.old.cells (place_of v.now) ≡ true → 0 < held_at self.old (place_of v.now) }
         ensures after { self.new ≡ released self.old v.now }
-        ensures sound { IsSound self.new }
     {
         lower(&mut self.slots, place_of(v) as usize);
     }
@@ -56,19 +57,18 @@ impl Heap {
     pub fn sweep(&mut self)
         ensures least { IsSwept self.old self.new }
         ensures swept { self.new ≡ swept self.old }
-        ensures sound { IsSound self.new }
     {
         self.total = take_zeros(&mut self.slots, self.total);
         cut_all(&mut self.slots, self.total);
     }
 
     /// Puts a value into a field of an object.
-    pub fn set_field(&mut self, of: Serial, index: u32, to: Value) -> Result<(), RunFault>
+    pub fn set_field(&mut self, of: Serial, index: u32, to: Value) -> Result<(), Trouble>
         requires of { knows_object self.old.cells of ≡ true }
         requires field { is_living self.old.cells of.0 ≡ true → is_some (field_in (cell_at self.old.cells of.0) index) ≡ true }
         requires to { knows self.old.cells to ≡ true }
-        ensures gone { (result ≡ Err RunFault.FreedAccess) ↔ (is_living self.old.cells of.0 ≡ false) }
-        ensures full { (result ≡ Err RunFault.HeapFull) ↔ ((is_living self.old.cells of.0 ≡ true) × (67108864 < weight (with_field self.old of.0 index to).cells)) }
+        ensures gone { (result ≡ Err (Trouble.Fault RunFault.FreedAccess)) ↔ (is_living self.old.cells of.0 ≡ false) }
+        ensures full { (result ≡ Err (Trouble.Fault RunFault.HeapFull)) ↔ ((is_living self.old.cells of.0 ≡ true) × (67108864 < weight (with_field self.old of.0 index to).cells)) }
         ensures ok { OnOk result (self.new ≡ with_field self.old of.0 index to) }
         ensures err { OnErr result (self.new ≡ self.old) }
     {
@@ -121,8 +121,8 @@ impl Heap {
     /// Gives a cell the next serial. No caller holds it yet.
     pub fn new_cell(&mut self, cell: Cell) -> Result<Serial, Trouble>
         requires known { KnowsCell self.old.cells cell }
-        requires light { cell_weight cell < 2 ^ 63 }
-        ensures full { (result ≡ Err (Trouble.Fault RunFault.HeapFull)) ↔ (67108864 < weight self.old.cells + cell_weight cell) }
+        requires fresh { IsFresh cell }
+        ensures full { (result ≡ Err (Trouble.Fault RunFault.HeapFull)) ↔ ((67108864 < weight self.old.cells + cell_weight cell) ⊎ (length self.old.cells ≡ 2 ^ 64)) }
         ensures serial { IfOk result (λ s. s.0 ≡ length self.old.cells) }
         ensures ok { OnOk result (self.new ≡ with_new self.old cell) }
         ensures err { OnErr result (self.new ≡ self.old) }

@@ -22,7 +22,7 @@ array_within cells x a = elim (cases_lt x (length cells)) [ inl h ↦ h | inr h 
 pub dict_within : (cells : List (Option Cell)) (x : ℕ) → is_dict (cell_at cells x) ≡ true → x < length cells
 dict_within cells x a = elim (cases_lt x (length cells)) [ inl h ↦ h | inr h ↦ absurd (false≢true (sym (ap is_dict (get_or_past cells x None h)) ∙ a)) ]
 
-object_within : (cells : List (Option Cell)) (s : Serial) → knows_object cells s ≡ true → s.0 < length cells
+pub object_within : (cells : List (Option Cell)) (s : Serial) → knows_object cells s ≡ true → s.0 < length cells
 object_within cells s k = ltb-true s.0 (length cells) ((and_parts _ _ ((and_parts (nat_lt 0 s.0) _ k).1)).0)
 
 pub value_within : (cells : List (Option Cell)) (v : Value) → 0 < length cells → knows cells v ≡ true → place_of v < length cells

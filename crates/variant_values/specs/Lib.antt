@@ -5,3 +5,4 @@ pub mod Heaps
 pub mod Sweeps
 pub mod Links
 pub mod Trees
+pub mod Sound

@@ -1,5 +1,5 @@
 -- Nodes, and what goes with a node.
-use Rattle.std.specs.Prelude.{slice_set, ℕ, Bool, cond, not, nat_eq, List, [], ◌∷◌, ◌++◌, length, filter, Option, Some, None, is_some, ◌≡◌, ◌⊎◌}
+use Rattle.std.specs.Prelude.{true, slice_set, ℕ, Bool, cond, not, nat_eq, List, [], ◌∷◌, ◌++◌, length, filter, Option, Some, None, is_some, ◌≡◌, ◌⊎◌}
 use Rattle.std.specs.Option.{option_map}
 use Rattle.variant_values.specs.declared.values.Serial.{Serial}
 use Rattle.variant_values.specs.declared.cells.NodePart.{NodePart}
@@ -67,6 +67,10 @@ with_queued h x = record h { queued = h.queued ++ x ∷ [] }
 pub data IsUnder (cells : List (Option Cell)) (top : ℕ) : ℕ → Type 0 where
   itself : IsUnder cells top top
   below : (x : ℕ) (p : Serial) → parent_of (cell_at cells x) ≡ Some p → IsUnder cells top p.0 → IsUnder cells top x
+
+-- each parent is a node that lives
+abbrev pub IsRooted : List (Option Cell) → Type 0
+IsRooted cells = (x : ℕ) (p : Serial) → parent_of (cell_at cells x) ≡ Some p → is_node (cell_at cells p.0) ≡ true
 
 -- the cells where a node is no child of its parent
 abbrev pub without_child_of : Option Serial → List (Option Cell) → ℕ → List (Option Cell)

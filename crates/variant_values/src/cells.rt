@@ -155,16 +155,6 @@ impl Values {
     }
 }
 
-impl Connections {
-    pub fn new(alloc: Global) -> Connections
-        ensures { result ≡ [] }
-    {
-        Connections {
-            rows: Vec::new(alloc),
-        }
-    }
-}
-
 impl Serials {
     pub fn new(alloc: Global) -> Serials
         ensures { result ≡ [] }

@@ -5,6 +5,8 @@ pub mod cells;
 pub mod classes;
 pub mod entries;
 pub mod faults;
+pub mod links;
+pub mod nodes;
 pub mod texts;
 pub mod values;
 pub mod weights;

@@ -1,0 +1,8 @@
+use Rattle.std.proofs.Common.{◌≡◌, ◌≤◌, ◌<◌, ℕ, List, false}
+use Rattle.ref_objects.specs.declared.slots.Slot.{Slot}
+use Rattle.ref_objects.specs.Slots.{IsKept}
+use Rattle.ref_objects.specs.Slots.{IsPassing}
+use Rattle.ref_objects.proofs.sweeps.take_pass.Given as goal
+
+abbrev pub invariant-loop-x : goal.invariant-loop-x
+invariant-loop-x l = IsPassing l.initial.slots.items l.slots.items l.total l.left l.x
