@@ -1,8 +1,8 @@
 -- What is true of a heap stays so.
-use Rattle.std.proofs.Common.{Bool, not, ◌&&◌, ◌++◌, ◌≡◌, ℕ, ◌+◌, ◌<◌, ◌≤◌, ◌^◌, true, false, List, [], ◌∷◌, zero, suc, length, get_or, set, refl, sym, ◌∙◌, ap, subst, Option, Some, None, is_some, arith, inl, inr}
+use Rattle.std.proofs.Common.{All, Bool, not, ◌&&◌, ◌++◌, ◌≡◌, ℕ, ◌+◌, ◌<◌, ◌≤◌, ◌^◌, true, false, List, [], ◌∷◌, zero, suc, length, get_or, set, refl, sym, ◌∙◌, ap, subst, Option, Some, None, is_some, arith, inl, inr}
 use Rattle.std.specs.Prelude.{IfSome}
 use Rattle.std.specs.List.{sum_by, list_any}
-use Rattle.std.proofs.lemmas.List.{length-map, get_or-set_same, get_or-set_other, get_or_past, get_or_append_left, get_or_push, length_push}
+use Rattle.std.proofs.lemmas.List.{length-map, get_or-set_same, get_or-set_other, get_or_past, get_or_append_left, get_or_push, length_push, set_past}
 use Rattle.std.proofs.lemmas.List.Filters.{length-filter_both}
 use Rattle.std.proofs.lemmas.List.Sums.{sum_by-set, sum_by-cons, sum_by_push}
 use Rattle.std.proofs.lemmas.Bool.{cases_eq, cases_lt, false≢true}
@@ -10,16 +10,18 @@ use Rattle.variant_values.specs.declared.values.Serial.{Serial}
 use Rattle.variant_values.specs.declared.values.Value.{Value}
 use Rattle.variant_values.specs.declared.values.Key.{Key}
 use Rattle.variant_values.specs.declared.cells.NodePart.{NodePart}
+use Rattle.variant_values.specs.declared.cells.Connection.{Connection}
 use Rattle.variant_values.specs.declared.cells.Cell.{Cell}
 use Rattle.variant_values.specs.declared.cells.Cell.TheVariants.{Array as ArrayCell, Dict as DictCell, Object as ObjectCell}
 use Rattle.variant_values.specs.Classes.{is_ref_counted}
-use Rattle.variant_values.specs.Places.{is_counted}
+use Rattle.variant_values.specs.Places.{is_counted, in_slot, slot_weight}
 use Rattle.variant_values.specs.Sweeps.{Goes, goes, cut_slot, IsSwept}
-use Rattle.variant_values.specs.Heaps.{Heap, cell_at, is_living, field_put, items_put, entries_put, IsFresh}
-use Rattle.variant_values.specs.Links.{connections_of, connections_in}
+use Rattle.variant_values.specs.Heaps.{Heap, is_object, knows_object, KnowsSlot, cell_at, is_living, field_put, items_put, entries_put, IsFresh}
+use Rattle.variant_values.specs.Links.{connections_of, connections_put, connections_in}
 use Rattle.variant_values.specs.Trees.{parent_in, parent_of, is_node, IsRooted}
 use Rattle.ref_objects.specs.declared.slots.Slot.{Slot}
-use Rattle.ref_objects.specs.Slots.{cells_of, heap_of, IsKept, IsSteady, IsNow, IsGrown}
+use Rattle.ref_objects.specs.Slots.{cells_of, heap_of, IsKept, IsSteady, IsNow, IsGrown, IsPut}
+use Rattle.ref_objects.proofs.Swapping.{IsSameKind, IsSwapped, swapped_kept, swapped_held}
 
 -- the cells as they were
 pub steady_same : (a b : List Slot) (total total' : ℕ) → IsSteady a total → IsKept b total' → cells_of b ≡ cells_of a → IsSteady b total'
@@ -48,14 +50,15 @@ rooted_put cells x t h p n r y q e = here q.0 ∙ r y q (sym (there y) ∙ e)
       | inr ne ↦ ap parent_of (get_or-set_other cells x y t None (λ e. ne (sym e)))
     ]
 
-pub steady_put : (a b : List Slot) (x total total' : ℕ) (t : Option Cell) → x < length a → IsSteady a total → IsKept b total' → cells_of b ≡ set (cells_of a) x t → parent_of t ≡ parent_of (cell_at (cells_of a) x) → is_node t ≡ is_node (cell_at (cells_of a) x) → connections_of t ≡ connections_of (cell_at (cells_of a) x) → IsSteady b total'
-steady_put a b x total total' t h s k e p n l =
-    let within : x < length (cells_of a) = rw (length-map a (λ s. s.cell)) h in
-    record {
+pub steady_put : (a b : List Slot) (x total total' : ℕ) (t : Option Cell) → IsSteady a total → IsKept b total' → cells_of b ≡ set (cells_of a) x t → parent_of t ≡ parent_of (cell_at (cells_of a) x) → is_node t ≡ is_node (cell_at (cells_of a) x) → connections_of t ≡ connections_of (cell_at (cells_of a) x) → IsSteady b total'
+steady_put a b x total total' t s k e p n l = elim (cases_lt x (length (cells_of a))) [
+  | inl within ↦ record {
       kept = k;
       rooted = rw e (rooted_put (cells_of a) x t within p n s.rooted);
       few_links = rw e (omega (arith, sum_by-set (λ w. length (connections_of w)) (cells_of a) x t None within, ap length l, s.few_links));
     }
+  | inr past ↦ steady_same a b total total' s k (e ∙ set_past (cells_of a) x t past)
+]
 
 -- what two cells have beside values is the same
 pub record IsApart (s t : Option Cell) : Type 0 where
@@ -81,8 +84,8 @@ entries_apart es (Some (ArrayCell ws of)) = record { parent = refl; node = refl;
 entries_apart es (Some (DictCell fs)) = record { parent = refl; node = refl; links = refl }
 entries_apart es (Some (ObjectCell o)) = record { parent = refl; node = refl; links = refl }
 
-pub steady_now : (a b : List Slot) (x total total' : ℕ) (t : Option Cell) → x < length a → IsSteady a total → IsNow a b total' (set (cells_of a) x t) → IsApart (cell_at (cells_of a) x) t → IsSteady b total'
-steady_now a b x total total' t h s n p = steady_put a b x total total' t h s n.kept n.cells_are p.parent p.node p.links
+pub steady_now : (a b : List Slot) (x total total' : ℕ) (t : Option Cell) → IsSteady a total → IsNow a b total' (set (cells_of a) x t) → IsApart (cell_at (cells_of a) x) t → IsSteady b total'
+steady_now a b x total total' t s n p = steady_put a b x total total' t s n.kept n.cells_are p.parent p.node p.links
 
 -- a cell more, which is new
 fresh_parent : (c : Cell) → IsFresh c → parent_of (Some c) ≡ None
@@ -180,3 +183,76 @@ steady_swept a b q total total' s k w = record {
   rooted = swept_rooted (heap_of a q) (heap_of b q) w s.rooted;
   few_links = omega (arith, swept_fewer (heap_of a q) (heap_of b q) w, s.few_links);
 }
+
+-- a cell is another with the same values
+pub put_now : (a c : List Slot) (x total : ℕ) (t : Option Cell) → x < length a → IsKept a total → IsPut a c x t → IsSameKind (cell_at (cells_of a) x) t → ((y : ℕ) → in_slot y t ≡ in_slot y (cell_at (cells_of a) x)) → slot_weight t ≡ slot_weight (cell_at (cells_of a) x) → KnowsSlot (cells_of a) t → IsNow a c total (set (cells_of a) x t)
+put_now a c x total t h k p kind places weighs known =
+    let s : IsSwapped a c x t = record { within = h; cells = p.cells; kind = kind; counts = λ y l. omega (arith, p.counts y, places y); gone = λ y l. p.counts y } in
+    record {
+      kept = swapped_kept a c x t s total total k known (omega (arith, weighs)) k.light;
+      cells_are = p.cells;
+      held = swapped_held a c x t s total k;
+    }
+
+-- what a change of connections or of the node part leaves
+links_kind : (cs : List Connection) (s : Option Cell) → IsSameKind s (connections_put cs s)
+links_kind cs None = record { array = refl; dict = refl; object = refl; alive = refl }
+links_kind cs (Some (ArrayCell vs of)) = record { array = refl; dict = refl; object = refl; alive = refl }
+links_kind cs (Some (DictCell es)) = record { array = refl; dict = refl; object = refl; alive = refl }
+links_kind cs (Some (ObjectCell o)) = record { array = refl; dict = refl; object = refl; alive = refl }
+
+links_places : (cs : List Connection) (y : ℕ) (s : Option Cell) → in_slot y (connections_put cs s) ≡ in_slot y s
+links_places cs y None = refl
+links_places cs y (Some (ArrayCell vs of)) = refl
+links_places cs y (Some (DictCell es)) = refl
+links_places cs y (Some (ObjectCell o)) = refl
+
+links_weight : (cs : List Connection) (s : Option Cell) → slot_weight (connections_put cs s) ≡ slot_weight s
+links_weight cs None = refl
+links_weight cs (Some (ArrayCell vs of)) = refl
+links_weight cs (Some (DictCell es)) = refl
+links_weight cs (Some (ObjectCell o)) = refl
+
+links_known : (cells : List (Option Cell)) (cs : List Connection) (s : Option Cell) → (is_object s ≡ true → All (λ c. knows_object cells c.target ≡ true) cs) → KnowsSlot cells s → KnowsSlot cells (connections_put cs s)
+links_known cells cs None n k = k
+links_known cells cs (Some (ArrayCell vs of)) n k = k
+links_known cells cs (Some (DictCell es)) n k = k
+links_known cells cs (Some (ObjectCell o)) n k = (k.0, n refl, k.2)
+
+links_parent : (cs : List Connection) (s : Option Cell) → parent_of (connections_put cs s) ≡ parent_of s
+links_parent cs None = refl
+links_parent cs (Some (ArrayCell vs of)) = refl
+links_parent cs (Some (DictCell es)) = refl
+links_parent cs (Some (ObjectCell o)) = refl
+
+links_node : (cs : List Connection) (s : Option Cell) → is_node (connections_put cs s) ≡ is_node s
+links_node cs None = refl
+links_node cs (Some (ArrayCell vs of)) = refl
+links_node cs (Some (DictCell es)) = refl
+links_node cs (Some (ObjectCell o)) = refl
+
+links_are : (cs : List Connection) (s : Option Cell) → is_object s ≡ true → connections_of (connections_put cs s) ≡ cs
+links_are cs None e = absurd (false≢true e)
+links_are cs (Some (ArrayCell vs of)) e = absurd (false≢true e)
+links_are cs (Some (DictCell es)) e = absurd (false≢true e)
+links_are cs (Some (ObjectCell o)) e = refl
+
+pub links_before : (cells : List (Option Cell)) (s : Option Cell) → is_object s ≡ true → KnowsSlot cells s → All (λ c. knows_object cells c.target ≡ true) (connections_of s)
+links_before cells None e k = absurd (false≢true e)
+links_before cells (Some (ArrayCell vs of)) e k = absurd (false≢true e)
+links_before cells (Some (DictCell es)) e k = absurd (false≢true e)
+links_before cells (Some (ObjectCell o)) e k = k.1
+
+pub links_now : (a c : List Slot) (x total : ℕ) (cs : List Connection) → x < length a → IsKept a total → IsPut a c x (connections_put cs (cell_at (cells_of a) x)) → All (λ c. knows_object (cells_of a) c.target ≡ true) cs → IsNow a c total (set (cells_of a) x (connections_put cs (cell_at (cells_of a) x)))
+links_now a c x total cs h k p n = put_now a c x total _ h k p (links_kind cs (cell_at (cells_of a) x)) (λ y. links_places cs y (cell_at (cells_of a) x)) (links_weight cs (cell_at (cells_of a) x)) (links_known (cells_of a) cs (cell_at (cells_of a) x) (λ e. n) (k.known x))
+
+-- an object has other connections, and no more than may stand
+pub links_steady : (a c : List Slot) (x total : ℕ) (cs : List Connection) → x < length a → is_object (cell_at (cells_of a) x) ≡ true → IsSteady a total → IsNow a c total (set (cells_of a) x (connections_put cs (cell_at (cells_of a) x))) → connections_in (cells_of a) + length cs < 2 ^ 32 + length (connections_of (cell_at (cells_of a) x)) → IsSteady c total
+links_steady a c x total cs h o s n few =
+    let within : x < length (cells_of a) = rw (length-map a (λ s. s.cell)) h in
+    let t = connections_put cs (cell_at (cells_of a) x) in
+    record {
+      kept = n.kept;
+      rooted = rw n.cells_are (rooted_put (cells_of a) x t within (links_parent cs (cell_at (cells_of a) x)) (links_node cs (cell_at (cells_of a) x)) s.rooted);
+      few_links = rw n.cells_are (omega (arith, sum_by-set (λ w. length (connections_of w)) (cells_of a) x t None within, ap length (links_are cs (cell_at (cells_of a) x) o), few));
+    }

@@ -1,18 +1,28 @@
-ghost use Rattle.std.specs.Prelude.{◌≡◌, ◌+◌, ◌<◌, ◌≤◌, ◌^◌, length, true, false, is_some, Err, OnOk, OnErr, IfOk, option_copied, if◌then◌else◌, ◌↔◌, ◌⊎◌};
+ghost use Rattle.std.specs.Prelude.{◌≡◌, ◌+◌, ◌<◌, ◌≤◌, ◌^◌, length, true, false, is_some, Err, OnOk, OnErr, IfOk, IfErr, Some, None, option_copied, if◌then◌else◌, ◌↔◌, ◌⊎◌};
 ghost use Rattle.variant_values.specs.Places.{place_of, weight, cell_weight};
-ghost use Rattle.variant_values.specs.Heaps.{empty_heap, with_new, IsFresh, KnowsCell, knows, knows_object, cell_at, field_in, with_field, is_living, held_at, retained, released};
+ghost use Rattle.variant_values.specs.Heaps.{unlinked, is_object, objects_in, empty_heap, with_new, IsFresh, KnowsCell, knows, knows_object, cell_at, field_in, with_field, is_living, held_at, retained, released};
+ghost use Rattle.std.specs.List.{list_any};
+ghost use Rattle.std.specs.Option.{option_map};
 ghost use Rattle.variant_values.specs.Sweeps.{IsSwept, swept};
+ghost use Rattle.variant_values.specs.Sound.{IsSound};
+ghost use Rattle.variant_values.specs.Links.{connections_of, connections_in, is_connection, targets_of, connected, disconnected};
+ghost use Rattle.variant_values.specs.Trees.{IsUnder, is_node, parent_of, with_child, with_name, with_queued};
 
 use crate::allocate::add_cell;
 use crate::counts::{lower, place_of, raise};
-use crate::fields::store_field;
+use crate::fields::{field_at, store_field};
 use crate::links::cut_all;
+use crate::objects::{
+    add_link, adopt_node, count_links, count_objects, drop_link, links_at, name_node, new_link,
+    place_node,
+};
 use crate::slots::{Slot, lives};
 use crate::sweeps::take_zeros;
 use std::alloc::{AllocError, Global};
 use std::marker::Model;
 use variant_values::cells::Cell;
 use variant_values::faults::{RunFault, Trouble};
+use variant_values::texts::Str;
 use variant_values::values::{Serial, Value};
 
 /// The heap. Contracts see its cells by serial, and how many values of each a caller retains.
@@ -21,6 +31,7 @@ pub struct Heap {
     slots: Vec<Slot>,
     total: u64,
     queued: Vec<Serial>,
+    alloc: Global,
 }
 
 impl Model for Heap {
@@ -95,6 +106,7 @@ impl Heap {
             slots,
             total: 0,
             queued: Vec::new(alloc),
+            alloc,
         })
     }
 
@@ -110,10 +122,10 @@ impl Heap {
         }
     }
 
-    /// The cell, where it lives.
+    /// The cell, where it lives. Its connections are told by `connections` and `has_connection`.
     pub fn cell(&self, of: Serial) -> Option<&Cell>
         requires { knows_object self.now.cells of ≡ true }
-        ensures { option_copied result ≡ cell_at self.now.cells of.0 }
+        ensures { option_map unlinked (option_copied result) ≡ option_map unlinked (cell_at self.now.cells of.0) }
     {
         self.slots[of.0 as usize].cell.as_ref()
     }
@@ -130,5 +142,126 @@ impl Heap {
         let serial = Serial(self.slots.len() as u64);
         self.total = add_cell(&mut self.slots, cell, self.total)?;
         Ok(serial)
+    }
+
+    /// What is true of every heap.
+    pub fn is_sound(&self)
+        ensures { IsSound self.now }
+    {
+        let _slots = &self.slots;
+    }
+
+    /// A field of an object.
+    pub fn field(&self, of: Serial, index: u32) -> Result<&Value, RunFault>
+        requires of { knows_object self.now.cells of ≡ true }
+        requires field { is_living self.now.cells of.0 ≡ true → is_some (field_in (cell_at self.now.cells of.0) index) ≡ true }
+        ensures value { IfOk result (λ v. field_in (cell_at self.now.cells of.0) index ≡ Some v.now) }
+        ensures gone { IfErr result (λ e. (e ≡ RunFault.FreedAccess) × (is_living self.now.cells of.0 ≡ false)) }
+    {
+        match field_at(self.slots.as_slice(), of.0 as usize, index as usize) {
+            Some(v) => Ok(v),
+            None => Err(RunFault::FreedAccess),
+        }
+    }
+
+    /// The number of objects, without arrays and dictionaries.
+    pub fn live_count(&self) -> u64
+        ensures { result ≡ objects_in self.now.cells }
+    {
+        count_objects(self.slots.as_slice())
+    }
+
+    /// The targets of a signal and their methods, in order of connection.
+    pub fn connections(&self, from: Serial, signal: &Str) -> Result<Vec<(Serial, Str)>, AllocError>
+        requires { is_object (cell_at self.now.cells from.0) ≡ true }
+        ensures { IfOk result (λ found. found.items ≡ targets_of signal.now (connections_of (cell_at self.now.cells from.0))) }
+    {
+        links_at(self.slots.as_slice(), from.0 as usize).targets(self.alloc, signal)
+    }
+
+    /// Whether the signal has that connection.
+    pub fn has_connection(&self, from: Serial, signal: &Str, to: Serial, method: &Str) -> bool
+        requires { is_object (cell_at self.now.cells from.0) ≡ true }
+        ensures { result ≡ list_any (is_connection signal.now to method.now) (connections_of (cell_at self.now.cells from.0)) }
+    {
+        links_at(self.slots.as_slice(), from.0 as usize).has(signal, to, method)
+    }
+
+    /// A signal gets a connection more, the object's last.
+    pub fn add_connection(
+        &mut self,
+        from: Serial,
+        signal: &Str,
+        to: Serial,
+        method: &Str,
+    ) -> Result<(), Trouble>
+        requires from { is_object (cell_at self.old.cells from.0) ≡ true }
+        requires to { is_object (cell_at self.old.cells to.0) ≡ true }
+        requires fresh { list_any (is_connection signal.now to method.now) (connections_of (cell_at self.old.cells from.0)) ≡ false }
+        ensures full { (result ≡ Err (Trouble.Fault RunFault.HeapFull)) ↔ (connections_in self.old.cells ≡ 4294967295) }
+        ensures ok { OnOk result (self.new ≡ connected self.old from.0 (record { signal = signal.now; target = to; method = method.now })) }
+        ensures err { OnErr result (self.new ≡ self.old) }
+    {
+        if count_links(self.slots.as_slice()) == 4_294_967_295 {
+            return Err(Trouble::Fault(RunFault::HeapFull));
+        }
+        let row = new_link(signal, to, method)?;
+        add_link(&mut self.slots, from.0 as usize, row)
+    }
+
+    /// Drops a connection of a signal, and answers whether it was there.
+    pub fn remove_connection(
+        &mut self,
+        from: Serial,
+        signal: &Str,
+        to: Serial,
+        method: &Str,
+    ) -> bool
+        requires { is_object (cell_at self.old.cells from.0) ≡ true }
+        ensures found { result ≡ list_any (is_connection signal.now to method.now) (connections_of (cell_at self.old.cells from.0)) }
+        ensures after { self.new ≡ disconnected self.old from.0 signal.now to method.now }
+    {
+        let found = self.has_connection(from, signal, to, method);
+        drop_link(&mut self.slots, from.0 as usize, signal, to, method);
+        found
+    }
+
+    /// Names a node.
+    pub fn set_name(&mut self, of: Serial, name: Str)
+        requires { is_node (cell_at self.old.cells of.0) ≡ true }
+        ensures { self.new ≡ with_name self.old of.0 name }
+    {
+        name_node(&mut self.slots, of.0 as usize, name);
+    }
+
+    /// A node becomes the last child of another.
+    pub fn add_child(&mut self, parent: Serial, child: Serial) -> Result<(), AllocError>
+        requires parent { is_node (cell_at self.old.cells parent.0) ≡ true }
+        requires child { is_node (cell_at self.old.cells child.0) ≡ true }
+        requires orphan { parent_of (cell_at self.old.cells child.0) ≡ None }
+        requires above { IsUnder self.old.cells child.0 parent.0 → ⊥ }
+        ensures ok { OnOk result (self.new ≡ with_child self.old parent child) }
+        ensures err { OnErr result (self.new ≡ self.old) }
+    {
+        adopt_node(&mut self.slots, parent.0 as usize, child)?;
+        place_node(&mut self.slots, child.0 as usize, parent);
+        Ok(())
+    }
+
+    /// Asks for a node to be freed at the run's end.
+    pub fn queue_node(&mut self, of: Serial) -> Result<(), AllocError>
+        requires { is_node (cell_at self.old.cells of.0) ≡ true }
+        ensures ok { OnOk result (self.new ≡ with_queued self.old of) }
+        ensures err { OnErr result (self.new ≡ self.old) }
+    {
+        self.queued.push(of)?;
+        Ok(())
+    }
+
+    /// The nodes to be freed, in order of asking.
+    pub fn queued(&self) -> &[Serial]
+        ensures { result.now ≡ self.now.queued }
+    {
+        self.queued.as_slice()
     }
 }
