@@ -1,8 +1,10 @@
 ghost use Rattle.std.specs.Prelude.{◌≡◌, ◌+◌, ◌<◌, ◌≤◌, ◌^◌, length, true, false, is_some, Err, OnOk, OnErr, IfOk, IfErr, Some, None, option_copied, if◌then◌else◌, ◌↔◌, ◌⊎◌};
 ghost use Rattle.variant_values.specs.Places.{place_of, weight, cell_weight};
-ghost use Rattle.variant_values.specs.Heaps.{unlinked, is_object, objects_in, empty_heap, with_new, IsFresh, KnowsCell, knows, knows_object, cell_at, field_in, with_field, is_living, held_at, retained, released};
+ghost use Rattle.variant_values.specs.Heaps.{is_dict, knows_key, with_entry_at, without_entry_at, entries_of, unlinked, is_object, objects_in, empty_heap, with_new, IsFresh, KnowsCell, knows, knows_object, cell_at, field_in, with_field, is_living, held_at, retained, released};
 ghost use Rattle.std.specs.List.{list_any};
+ghost use Rattle.std.specs.Map.{lookup};
 ghost use Rattle.std.specs.Option.{option_map};
+ghost use Rattle.variant_values.specs.Keys.{same_key};
 ghost use Rattle.variant_values.specs.Sweeps.{IsSwept, swept};
 ghost use Rattle.variant_values.specs.Sound.{IsSound};
 ghost use Rattle.variant_values.specs.Links.{connections_of, connections_in, is_connection, targets_of, connected, disconnected};
@@ -10,6 +12,7 @@ ghost use Rattle.variant_values.specs.Trees.{IsUnder, is_node, parent_of, with_c
 
 use crate::allocate::add_cell;
 use crate::counts::{lower, place_of, raise};
+use crate::dicts::{drop_entry, store_entry};
 use crate::fields::{field_at, store_field};
 use crate::links::cut_all;
 use crate::objects::{
@@ -23,7 +26,7 @@ use std::marker::Model;
 use variant_values::cells::Cell;
 use variant_values::faults::{RunFault, Trouble};
 use variant_values::texts::Str;
-use variant_values::values::{Serial, Value};
+use variant_values::values::{Key, Serial, Value};
 
 /// The heap. Contracts see its cells by serial, and how many values of each a caller retains.
 #[derive(Drop)]
@@ -263,5 +266,34 @@ impl Heap {
         ensures { result.now ≡ self.now.queued }
     {
         self.queued.as_slice()
+    }
+
+    /// Gives a dictionary an entry. A new key goes last, and a present one keeps its place.
+    pub fn set_entry(&mut self, of: Serial, key: Key, to: Value) -> Result<(), Trouble>
+        requires dict { is_dict (cell_at self.old.cells of.0) ≡ true }
+        requires key { knows_key self.old.cells key ≡ true }
+        requires to { knows self.old.cells to ≡ true }
+        ensures full { (result ≡ Err (Trouble.Fault RunFault.HeapFull)) ↔ (67108864 < weight (with_entry_at self.old of.0 key to).cells) }
+        ensures ok { OnOk result (self.new ≡ with_entry_at self.old of.0 key to) }
+        ensures err { OnErr result (self.new ≡ self.old) }
+    {
+        self.total = store_entry(&mut self.slots, of.0 as usize, key, to, self.total)?;
+        Ok(())
+    }
+
+    /// Takes a key out of a dictionary, and answers whether it was there.
+    pub fn remove_entry(&mut self, of: Serial, key: &Key) -> bool
+        requires dict { is_dict (cell_at self.old.cells of.0) ≡ true }
+        requires key { knows_key self.old.cells key.now ≡ true }
+        ensures found { result ≡ is_some (lookup (same_key key.now) (entries_of (cell_at self.old.cells of.0))) }
+        ensures after { self.new ≡ without_entry_at self.old of.0 key.now }
+    {
+        match drop_entry(&mut self.slots, of.0 as usize, key, self.total) {
+            Some(left) => {
+                self.total = left;
+                true
+            }
+            None => false,
+        }
     }
 }

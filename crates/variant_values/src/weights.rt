@@ -38,7 +38,8 @@ pub fn item_weight(v: &Value) -> u64
 
 /// What an entry of a dictionary weighs.
 pub fn entry_weight(key: &Key, value: &Value) -> u128
-    ensures { result ≡ entry_weight (key.now, value.now) }
+    ensures weight { result ≡ entry_weight (key.now, value.now) }
+    ensures small { result < 2 ^ 65 }
 {
     4 + (key_weight(key) as u128 + text_weight(value) as u128)
 }
