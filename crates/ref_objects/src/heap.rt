@@ -1,6 +1,6 @@
 ghost use Rattle.std.specs.Prelude.{◌≡◌, ◌+◌, ◌<◌, ◌≤◌, ◌^◌, length, true, false, is_some, Err, OnOk, OnErr, IfOk, IfErr, Some, None, option_copied, if◌then◌else◌, ◌↔◌, ◌⊎◌};
 ghost use Rattle.variant_values.specs.Places.{place_of, weight, cell_weight};
-ghost use Rattle.variant_values.specs.Heaps.{is_dict, knows_key, with_entry_at, without_entry_at, entries_of, unlinked, is_object, objects_in, empty_heap, with_new, IsFresh, KnowsCell, knows, knows_object, cell_at, field_in, with_field, is_living, held_at, retained, released};
+ghost use Rattle.variant_values.specs.Heaps.{is_array, items_of, with_splice, KnowsAll, is_dict, knows_key, with_entry_at, without_entry_at, entries_of, unlinked, is_object, objects_in, empty_heap, with_new, IsFresh, KnowsCell, knows, knows_object, cell_at, field_in, with_field, is_living, held_at, retained, released};
 ghost use Rattle.std.specs.List.{list_any};
 ghost use Rattle.std.specs.Map.{lookup};
 ghost use Rattle.std.specs.Option.{option_map};
@@ -11,6 +11,7 @@ ghost use Rattle.variant_values.specs.Links.{connections_of, connections_in, is_
 ghost use Rattle.variant_values.specs.Trees.{IsUnder, is_node, parent_of, with_child, with_name, with_queued};
 
 use crate::allocate::add_cell;
+use crate::arrays::store_splice;
 use crate::counts::{lower, place_of, raise};
 use crate::dicts::{drop_entry, store_entry};
 use crate::fields::{field_at, store_field};
@@ -295,5 +296,32 @@ impl Heap {
             }
             None => false,
         }
+    }
+
+    /// Puts values into an array in the place of `out` items from an index on.
+    pub fn splice(
+        &mut self,
+        of: Serial,
+        at: usize,
+        out: usize,
+        put: Vec<Value>,
+    ) -> Result<(), Trouble>
+        requires array { is_array (cell_at self.old.cells of.0) ≡ true }
+        requires items { at + out ≤ length (items_of (cell_at self.old.cells of.0)) }
+        requires put { KnowsAll self.old.cells put.items }
+        ensures full { (result ≡ Err (Trouble.Fault RunFault.HeapFull)) ↔ (67108864 < weight (with_splice self.old of.0 at out put.items).cells) }
+        ensures ok { OnOk result (self.new ≡ with_splice self.old of.0 at out put.items) }
+        ensures err { OnErr result (self.new ≡ self.old) }
+    {
+        self.total = store_splice(
+            &mut self.slots,
+            of.0 as usize,
+            at,
+            out,
+            put,
+            self.total,
+            self.alloc,
+        )?;
+        Ok(())
     }
 }
