@@ -1,5 +1,5 @@
 ghost use Rattle.std.specs.Prelude.{◌≡◌, ◌+◌, ◌<◌, ◌≤◌, ◌^◌, length, true, false, is_some, Err, OnOk, OnErr, IfOk, IfErr, Some, None, option_copied, if◌then◌else◌, ◌↔◌, ◌⊎◌};
-ghost use Rattle.variant_values.specs.Places.{place_of, weight, cell_weight};
+ghost use Rattle.variant_values.specs.Places.{is_counted, place_of, weight, cell_weight};
 ghost use Rattle.variant_values.specs.Heaps.{is_array, items_of, with_splice, KnowsAll, is_dict, knows_key, with_entry_at, without_entry_at, entries_of, unlinked, is_object, objects_in, empty_heap, with_new, IsFresh, KnowsCell, knows, knows_object, cell_at, field_in, with_field, is_living, held_at, retained, released};
 ghost use Rattle.std.specs.List.{list_any};
 ghost use Rattle.std.specs.Map.{lookup};
@@ -8,13 +8,14 @@ ghost use Rattle.variant_values.specs.Keys.{same_key};
 ghost use Rattle.variant_values.specs.Sweeps.{IsSwept, swept};
 ghost use Rattle.variant_values.specs.Sound.{IsSound};
 ghost use Rattle.variant_values.specs.Links.{connections_of, connections_in, is_connection, targets_of, connected, disconnected};
-ghost use Rattle.variant_values.specs.Trees.{IsUnder, is_node, parent_of, with_child, with_name, with_queued};
+ghost use Rattle.variant_values.specs.Trees.{IsUnder, IsFreed, is_node, parent_of, with_child, with_name, with_queued};
 
 use crate::allocate::add_cell;
 use crate::arrays::store_splice;
 use crate::counts::{lower, place_of, raise};
 use crate::dicts::{drop_entry, store_entry};
 use crate::fields::{field_at, store_field};
+use crate::frees::free_tree;
 use crate::links::cut_all;
 use crate::objects::{
     add_link, adopt_node, count_links, count_objects, drop_link, links_at, name_node, new_link,
@@ -322,6 +323,22 @@ impl Heap {
             self.total,
             self.alloc,
         )?;
+        Ok(())
+    }
+
+    /// Takes an object away at once, with a node's whole subtree and the connections from and to them.
+    pub fn free_node(&mut self, of: Serial) -> Result<(), RunFault>
+        requires of { knows_object self.old.cells of ≡ true }
+        requires uncounted { is_counted (cell_at self.old.cells of.0) ≡ false }
+        ensures ok { OnOk result (IsFreed self.old self.new of.0) }
+        ensures gone { IfErr result (λ e. (e ≡ RunFault.FreedAccess) × (is_living self.old.cells of.0 ≡ false)) }
+        ensures lives { OnOk result (is_living self.old.cells of.0 ≡ true) }
+        ensures err { OnErr result (self.new ≡ self.old) }
+    {
+        if !lives(self.slots.as_slice(), of.0) {
+            return Err(RunFault::FreedAccess);
+        }
+        self.total = free_tree(&mut self.slots, of.0 as usize, self.total);
         Ok(())
     }
 }
