@@ -1,13 +1,15 @@
 -- An object and its subtree are taken away.
 use Rattle.std.proofs.Common.{◌≡◌, ℕ, ◌+◌, ◌-◌, ◌<◌, ◌≤◌, Bool, true, false, not, cond, List, length, get_or, set, refl, sym, ◌∙◌, ap, subst, Option, Some, None, is_some, arith, inl, inr, ◌⊎◌}
-use Rattle.std.proofs.lemmas.List.{map-set, get_or-set_same, get_or-set_other, get_or_past, length-set, length-map}
+use Rattle.std.proofs.lemmas.List.{set_past, map-set, get_or-set_same, get_or-set_other, get_or_past, length-set, length-map}
+use Rattle.std.proofs.lemmas.List.Elements.{All-filter}
+use Rattle.std.specs.Prelude.{nat_eq}
 use Rattle.std.proofs.lemmas.Bool.{cases_Bool, cases_eq, cases_lt, false≢true}
 use Rattle.variant_values.specs.declared.values.Serial.{Serial}
 use Rattle.variant_values.specs.declared.cells.NodePart.{NodePart}
 use Rattle.variant_values.specs.declared.cells.Cell.{Cell}
 use Rattle.variant_values.specs.declared.cells.Cell.TheVariants.{Array as ArrayCell, Dict as DictCell, Object as ObjectCell}
 use Rattle.variant_values.specs.Places.{in_cell, in_slot, in_cells, cell_weight, weight}
-use Rattle.variant_values.specs.Heaps.{Heap, cell_at, is_living, is_object, is_array, is_dict, is_no_container, KnowsSlot, KnowsNode}
+use Rattle.variant_values.specs.Heaps.{Heap, cell_at, is_living, is_object, is_array, is_dict, is_no_container, knows_object, KnowsSlot, KnowsNode}
 use Rattle.variant_values.specs.Links.{connections_of, connections_in}
 use Rattle.variant_values.specs.Sweeps.{cut_slot}
 use Rattle.variant_values.specs.Trees.{parent_of, parent_in, is_node, node_put, bereft, without_child, without_child_of, IsRooted, IsUnder, itself, below, IsFreed}
@@ -16,7 +18,7 @@ use Rattle.variant_values.proofs.Knowing.{IsAlike, slot_alike}
 use Rattle.ref_objects.specs.declared.slots.Slot.{Slot}
 use Rattle.ref_objects.specs.Slots.{gone, count_at, cells_of, lives, held_of, heap_of, IsKept, IsSteady, IsNow, IsPut, IsCut, IsLowered, IsLost, IsFreeing, IsFreePass, IsPruned, is_orphan, has_gone}
 use Rattle.ref_objects.proofs.Raising.{lives-cells, lives_same}
-use Rattle.ref_objects.proofs.Holding.{lives_within}
+use Rattle.ref_objects.proofs.Holding.{length-held_of}
 use Rattle.ref_objects.proofs.Following.{IsFollowed, followed_left, followed_kept}
 use Rattle.ref_objects.proofs.Taking.{in_cells-out, weight-out, lives_other, lives_out}
 use Rattle.ref_objects.proofs.Swapping.{kind_kept}
@@ -253,6 +255,156 @@ cut_some : (p : ℕ → Bool) (s : Option Cell) → is_some (cut_slot p s) ≡ i
 cut_some p None = refl
 cut_some p (Some c) = refl
 
+-- what is the same of a cell and of another that is put there is the same of all cells
+put_same : {X : Type 0} (f : Option Cell → X) (cells : List (Option Cell)) (x y : ℕ) (t : Option Cell) → f t ≡ f (cell_at cells x) → f (cell_at (set cells x t) y) ≡ f (cell_at cells y)
+put_same f cells x y t e = elim (cases_lt x (length cells)) [
+  | inl h ↦ elim (cases_eq x y) [
+    | inl same ↦ subst (λ z. f (cell_at (set cells x t) z) ≡ f (cell_at cells z)) same (ap f (get_or-set_same cells x t None h) ∙ e)
+    | inr ne ↦ ap f (get_or-set_other cells x y t None (λ e. ne (sym e)))
+  ]
+  | inr h ↦ ap (λ (d : List (Option Cell)). f (cell_at d y)) (set_past cells x t h)
+]
+
+bereft_known : (cells : List (Option Cell)) (x : ℕ) (m : NodePart) → KnowsNode cells (Some m) → KnowsNode cells (Some (bereft x m))
+bereft_known cells x m k = (k.0, All-filter (λ (s : Serial). not (nat_eq s.0 x)) (λ s. knows_object cells s ≡ true) m.children k.1)
+
 -- a node is no child of its parent any more
-bereft_parent : (x : ℕ) (m : NodePart) → (bereft x m).parent ≡ m.parent
-bereft_parent x m = refl
+module _ (a : List Slot) (x total : ℕ) (k : IsKept a total) (r : IsRooted (cells_of a)) where
+  pub parent_object : (p : Serial) → Some p ≡ parent_of (cell_at (cells_of a) x) → is_object (cell_at (cells_of a) p.0) ≡ true
+  parent_object p e = node_object (cell_at (cells_of a) p.0) (r x p (sym e))
+
+  pub parent_within : (p : Serial) → Some p ≡ parent_of (cell_at (cells_of a) x) → p.0 < length a
+  parent_within p e = subst (λ n. p.0 < n) (length-map a (λ s. s.cell)) (object_within (cells_of a) p.0 (parent_object p e))
+
+  pub detached_some : (c : List Slot) (p : Serial) → Some p ≡ parent_of (cell_at (cells_of a) x) → IsPut a c p.0 (node_put (bereft x) (cell_at (cells_of a) p.0)) → IsNow a c total (without_child (cells_of a) x)
+  detached_some c p e put =
+      let P : Option Serial → Type 0 = λ o. IsNow a c total (without_child_of o (cells_of a) x) in
+      subst P e (nodes_now a c p.0 total (bereft x) (parent_within p e) k put (bereft_known (cells_of a) x))
+
+  pub detached_none : None ≡ parent_of (cell_at (cells_of a) x) → IsNow a a total (without_child (cells_of a) x)
+  detached_none e =
+      let P : Option Serial → Type 0 = λ o. IsNow a a total (without_child_of o (cells_of a) x) in
+      subst P e (record { kept = k; cells_are = refl; held = refl })
+
+-- what such a cell has is what it had
+without_same : {X : Type 0} (f : Option Cell → X) → ((x : ℕ) (s : Option Cell) → f (node_put (bereft x) s) ≡ f s) → (cells : List (Option Cell)) (x y : ℕ) → f (cell_at (without_child cells x) y) ≡ f (cell_at cells y)
+without_same f e cells x y = by (parent_of (cell_at cells x))
+  where
+    by : (o : Option Serial) → f (cell_at (without_child_of o cells x) y) ≡ f (cell_at cells y)
+    by None = refl
+    by (Some p) = put_same f cells p.0 y (node_put (bereft x) (cell_at cells p.0)) (e x (cell_at cells p.0))
+
+without_length : (cells : List (Option Cell)) (x : ℕ) → length (without_child cells x) ≡ length cells
+without_length cells x = by (parent_of (cell_at cells x))
+  where
+    by : (o : Option Serial) → length (without_child_of o cells x) ≡ length cells
+    by None = refl
+    by (Some p) = length-set cells p.0 (node_put (bereft x) (cell_at cells p.0))
+
+bereft_parent : (x : ℕ) (s : Option Cell) → parent_of (node_put (bereft x) s) ≡ parent_of s
+bereft_parent x s = (node_apart (bereft x) s (λ m. refl)).parent
+
+bereft_node : (x : ℕ) (s : Option Cell) → is_node (node_put (bereft x) s) ≡ is_node s
+bereft_node x s = (node_apart (bereft x) s (λ m. refl)).node
+
+bereft_links : (x : ℕ) (s : Option Cell) → connections_of (node_put (bereft x) s) ≡ connections_of s
+bereft_links x s = (node_apart (bereft x) s (λ m. refl)).links
+
+bereft_some : (x : ℕ) (s : Option Cell) → is_some (node_put (bereft x) s) ≡ is_some s
+bereft_some x None = refl
+bereft_some x (Some (ArrayCell vs of)) = refl
+bereft_some x (Some (DictCell es)) = refl
+bereft_some x (Some (ObjectCell o)) = refl
+
+bereft_object : (x : ℕ) (s : Option Cell) → is_object (node_put (bereft x) s) ≡ is_object s
+bereft_object x None = refl
+bereft_object x (Some (ArrayCell vs of)) = refl
+bereft_object x (Some (DictCell es)) = refl
+bereft_object x (Some (ObjectCell o)) = refl
+
+module _ (a a' : List Slot) (x total : ℕ) (n : IsNow a a' total (without_child (cells_of a) x)) where
+  same_parent : (y : ℕ) → parent_of (cell_at (cells_of a') y) ≡ parent_of (cell_at (cells_of a) y)
+  same_parent y = ap (λ cells. parent_of (cell_at cells y)) n.cells_are ∙ without_same parent_of bereft_parent (cells_of a) x y
+
+  same_node : (y : ℕ) → is_node (cell_at (cells_of a') y) ≡ is_node (cell_at (cells_of a) y)
+  same_node y = ap (λ cells. is_node (cell_at cells y)) n.cells_are ∙ without_same is_node bereft_node (cells_of a) x y
+
+  same_lives : (y : ℕ) → is_living (cells_of a') y ≡ is_living (cells_of a) y
+  same_lives y = ap (λ cells. is_living cells y) n.cells_are ∙ without_same is_some bereft_some (cells_of a) x y
+
+  pub detached_object : is_object (cell_at (cells_of a) x) ≡ true → is_object (cell_at (cells_of a') x) ≡ true
+  detached_object o = ap (λ cells. is_object (cell_at cells x)) n.cells_are ∙ without_same is_object bereft_object (cells_of a) x x ∙ o
+
+  detached_length : length a' ≡ length a
+  detached_length = sym (length-map a' (λ s. s.cell)) ∙ ap length n.cells_are ∙ without_length (cells_of a) x ∙ length-map a (λ s. s.cell)
+
+  pub detached_within : x < length a → x < length a'
+  detached_within h = rw detached_length h
+
+  pub detached_rooted : IsRooted (cells_of a) → IsRooted (cells_of a')
+  detached_rooted r y p e = same_node p.0 ∙ r y p (sym (same_parent y) ∙ e)
+
+  module _ (b c : List Slot) (left : ℕ) (f : IsFreeing a' b left x) (none : (y : ℕ) → is_orphan (cells_of b) y ≡ false) (cut : IsCut b c) (held : held_of c ≡ held_of b) (object : is_object (cell_at (cells_of a) x) ≡ true) where
+    living_c : (y : ℕ) → is_living (cells_of c) y ≡ is_living (cells_of b) y
+    living_c y = ap is_some (cut.each y) ∙ cut_some (is_living (cells_of b)) (cell_at (cells_of b) y)
+
+    test : is_living (cells_of b) ≡ is_living (cells_of c)
+    test = λ i y. sym (living_c y) i
+
+    into : (y : ℕ) → IsUnder (cells_of a) x y → IsUnder (cells_of a') x y
+    into y = under_same (cells_of a) (cells_of a') x same_parent y
+
+    back : (y : ℕ) → IsUnder (cells_of a') x y → IsUnder (cells_of a) x y
+    back y = under_same (cells_of a') (cells_of a) x (λ z. sym (same_parent z)) y
+
+    object_some : (s : Option Cell) → is_object s ≡ true → is_some s ≡ true
+    object_some None o = absurd (false≢true o)
+    object_some (Some d) o = refl
+
+    not_under : (y : ℕ) → cell_at (cells_of b) y ≡ cell_at (cells_of a') y → IsUnder (cells_of a) x y → ⊥
+    not_under y same u = false≢true (sym (all_freed a' b left x f none y (into y u)) ∙ ap is_some same ∙ same_lives y ∙ under_lives (cells_of a) x (object_some (cell_at (cells_of a) x) object) y u)
+
+    pub pruned : IsPruned a c x
+    pruned = record {
+      same = cut.same ∙ f.same ∙ detached_length;
+      each = λ y. elim (f.each y) [
+        | inl same ↦ inr (not_under y same, cut.each y ∙ ap (cut_slot (is_living (cells_of b))) (same ∙ ap (λ cells. cell_at cells y) n.cells_are) ∙ ap (λ t. cut_slot t (cell_at (without_child (cells_of a) x) y)) test)
+        | inr went ↦ inl (back y went.1, cut.each y ∙ ap (cut_slot (is_living (cells_of b))) went.0)
+      ];
+      held = λ y. ap (λ h. get_or h y 0) held ∙ f.held y ∙ ap (λ t. cond t (get_or (held_of a') y 0) 0) (sym (lives-cells b y) ∙ sym (living_c y)) ∙ ap (λ h. cond (is_living (cells_of c) y) (get_or h y 0) 0) n.held;
+    }
+
+-- what is left
+module _ (a c : List Slot) (x : ℕ) (p : IsPruned a c x) where
+  pub pruned_freed : (q : List Serial) → IsFreed (heap_of a q) (heap_of c q) x
+  pruned_freed q = record {
+    serials = length-map c (λ s. s.cell) ∙ p.same ∙ sym (length-map a (λ s. s.cell));
+    cells = p.each;
+    places = length-held_of c ∙ p.same ∙ sym (length-held_of a);
+    held = p.held;
+    queued = refl;
+  }
+
+  left_parent : (y : ℕ) (q : Serial) → parent_of (cell_at (cells_of c) y) ≡ Some q → (IsUnder (cells_of a) x y → ⊥) × (parent_of (cell_at (cells_of a) y) ≡ Some q)
+  left_parent y q e = elim (p.each y) [
+    | inl went ↦ absurd (false≢true (ap is_some (sym (ap parent_of went.1) ∙ e)))
+    | inr left ↦ (left.0, sym (without_same parent_of bereft_parent (cells_of a) x y) ∙ sym (cut_parent (is_living (cells_of c)) (cell_at (without_child (cells_of a) x) y)) ∙ sym (ap parent_of left.1) ∙ e)
+  ]
+
+  pub pruned_steady : (total left : ℕ) → IsSteady a total → IsKept c left → IsSteady c left
+  pruned_steady total left s k = record {
+    kept = k;
+    rooted = λ y q e.
+      let was = left_parent y q e in
+      elim (p.each q.0) [
+        | inl went ↦ absurd (was.0 (below y q was.1 went.0))
+        | inr stays ↦ ap is_node stays.1 ∙ cut_node (is_living (cells_of c)) (cell_at (without_child (cells_of a) x) q.0) ∙ without_same is_node bereft_node (cells_of a) x q.0 ∙ s.rooted y q was.1
+      ];
+    few_links = omega (arith, no_more, s.few_links);
+  }
+    where
+      no_more : connections_in (cells_of c) ≤ connections_in (cells_of a)
+      no_more = fewer (cells_of a) (cells_of c) (length-map c (λ s. s.cell) ∙ p.same ∙ sym (length-map a (λ s. s.cell))) (λ y. elim (p.each y) [
+        | inl went ↦ omega (arith, ap (λ w. length (connections_of w)) went.1)
+        | inr left ↦ omega (arith, ap (λ w. length (connections_of w)) left.1, cut_fewer (is_living (cells_of c)) (cell_at (without_child (cells_of a) x) y), ap length (without_same connections_of bereft_links (cells_of a) x y))
+      ])

@@ -124,13 +124,13 @@ steady_grown a b total total' c s f g = record {
 }
 
 -- a sweep
-cut_parent : (p : ℕ → Bool) (s : Option Cell) → parent_of (cut_slot p s) ≡ parent_of s
+pub cut_parent : (p : ℕ → Bool) (s : Option Cell) → parent_of (cut_slot p s) ≡ parent_of s
 cut_parent p None = refl
 cut_parent p (Some (ArrayCell vs of)) = refl
 cut_parent p (Some (DictCell es)) = refl
 cut_parent p (Some (ObjectCell o)) = refl
 
-cut_node : (p : ℕ → Bool) (s : Option Cell) → is_node (cut_slot p s) ≡ is_node s
+pub cut_node : (p : ℕ → Bool) (s : Option Cell) → is_node (cut_slot p s) ≡ is_node s
 cut_node p None = refl
 cut_node p (Some (ArrayCell vs of)) = refl
 cut_node p (Some (DictCell es)) = refl

@@ -83,6 +83,7 @@ fn orphan_pass(slots: &mut Vec<Slot>, total: u64) -> u64
 fn take_orphans(slots: &mut Vec<Slot>, total: u64) -> u64
     requires { IsKept slots.old.items total }
     ensures freed { (first : List Slot) (top : ℕ) → IsFreeing first slots.old.items total top → IsFreeing first slots.new.items result top }
+    ensures kept { IsKept slots.new.items result }
     ensures none { (x : ℕ) → is_orphan (cells_of slots.new.items) x ≡ false }
 {
     let mut before = total;
@@ -101,8 +102,9 @@ fn detach(slots: &mut Vec<Slot>, x: usize, total: u64)
     requires within { x < length slots.old.items }
     ensures { IsNow slots.old.items slots.new.items total (without_child (cells_of slots.old.items) x) }
 {
-    if let Some(parent) = parent_at(slots.as_slice(), x) {
-        drop_child(slots, parent.0 as usize, x as u64);
+    match parent_at(slots.as_slice(), x) {
+        Some(parent) => drop_child(slots, parent.0 as usize, x as u64),
+        None => (),
     }
 }
 

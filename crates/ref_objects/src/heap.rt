@@ -1,6 +1,6 @@
 ghost use Rattle.std.specs.Prelude.{◌≡◌, ◌+◌, ◌<◌, ◌≤◌, ◌^◌, length, true, false, is_some, Err, OnOk, OnErr, IfOk, IfErr, Some, None, option_copied, if◌then◌else◌, ◌↔◌, ◌⊎◌};
 ghost use Rattle.variant_values.specs.Places.{is_counted, place_of, weight, cell_weight};
-ghost use Rattle.variant_values.specs.Heaps.{is_array, items_of, with_splice, KnowsAll, is_dict, knows_key, with_entry_at, without_entry_at, entries_of, unlinked, is_object, objects_in, empty_heap, with_new, IsFresh, KnowsCell, knows, knows_object, cell_at, field_in, with_field, is_living, held_at, retained, released};
+ghost use Rattle.variant_values.specs.Heaps.{is_given, is_array, items_of, with_splice, KnowsAll, is_dict, knows_key, with_entry_at, without_entry_at, entries_of, unlinked, is_object, objects_in, empty_heap, with_new, IsFresh, KnowsCell, knows, knows_object, cell_at, field_in, with_field, is_living, held_at, retained, released};
 ghost use Rattle.std.specs.List.{list_any};
 ghost use Rattle.std.specs.Map.{lookup};
 ghost use Rattle.std.specs.Option.{option_map};
@@ -129,7 +129,7 @@ impl Heap {
 
     /// The cell, where it lives. Its connections are told by `connections` and `has_connection`.
     pub fn cell(&self, of: Serial) -> Option<&Cell>
-        requires { knows_object self.now.cells of ≡ true }
+        requires { is_given self.now.cells of ≡ true }
         ensures { option_map unlinked (option_copied result) ≡ option_map unlinked (cell_at self.now.cells of.0) }
     {
         self.slots[of.0 as usize].cell.as_ref()

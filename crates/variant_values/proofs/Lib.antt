@@ -6,3 +6,4 @@ pub mod Sweeping
 pub mod Once
 pub mod Rounds
 pub mod Holds
+pub mod Lasting
