@@ -33,7 +33,7 @@ use variant_values::values::{Key, Serial, Value};
 /// The heap. Contracts see its cells by serial, and how many values of each a caller retains.
 #[derive(Drop)]
 pub struct Heap {
-    slots: Vec<Slot>,
+    pub(crate) slots: Vec<Slot>,
     total: u64,
     queued: Vec<Serial>,
     alloc: Global,
