@@ -1,5 +1,5 @@
 -- The node part of an object changes.
-use Rattle.std.proofs.Common.{◌≡◌, ℕ, ◌<◌, ◌≤◌, Bool, true, false, List, length, set, refl, sym, ◌∙◌, ap, subst, Option, Some, None, is_some, arith, inl, inr, ◌∷◌, ◌++◌, []}
+use Rattle.std.proofs.Common.{◌≡◌, ℕ, ◌<◌, ◌≤◌, true, List, length, set, refl, sym, ◌∙◌, ap, subst, Option, Some, None, is_some, arith, inl, inr}
 use Rattle.std.specs.Option.{option_map}
 use Rattle.std.proofs.lemmas.List.{length-map, length-set, get_or-set_same, get_or-set_other, get_or_past}
 use Rattle.std.proofs.lemmas.List.Elements.{All-push}
@@ -16,7 +16,7 @@ use Rattle.ref_objects.specs.declared.slots.Slot.{Slot}
 use Rattle.ref_objects.specs.Slots.{cells_of, heap_of, IsKept, IsSteady, IsNow, IsPut}
 use Rattle.ref_objects.proofs.Holding.{same_heap}
 use Rattle.ref_objects.proofs.Swapping.{IsSameKind}
-use Rattle.ref_objects.proofs.Steady.{IsApart, put_now, steady_now, rooted_put, fewer}
+use Rattle.ref_objects.proofs.Steady.{IsApart, put_now, steady_now, fewer}
 use Rattle.ref_objects.proofs.Linking.{object_known}
 
 node_kind : (f : NodePart → NodePart) (s : Option Cell) → IsSameKind s (node_put f s)

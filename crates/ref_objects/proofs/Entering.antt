@@ -1,12 +1,12 @@
 -- An entry is put into a dictionary, or a key is taken out.
-use Rattle.std.proofs.Common.{◌≡◌, ℕ, ◌+◌, ◌-◌, ◌<◌, ◌≤◌, ◌^◌, Bool, true, false, cond, List, [], ◌∷◌, zero, suc, length, set, refl, sym, ◌∙◌, ap, subst, Option, Some, None, is_some, arith, inl, inr, All}
+use Rattle.std.proofs.Common.{◌≡◌, ℕ, ◌+◌, ◌-◌, ◌<◌, ◌≤◌, ◌^◌, Bool, true, false, cond, List, [], ◌∷◌, suc, length, set, refl, sym, ◌∙◌, ap, subst, Option, Some, None, is_some, arith, All}
 use Rattle.std.specs.List.{sum_by}
 use Rattle.std.specs.Map.{lookup}
 use Rattle.std.specs.Cmp.Lexicographic.{pointwise}
 use Rattle.std.specs.Prelude.{nat_eq, IfSome}
 use Rattle.std.proofs.lemmas.List.{length-map, length-set}
 use Rattle.std.proofs.lemmas.List.Elements.{All-head, All-tail, All-cons}
-use Rattle.std.proofs.lemmas.List.Sums.{sum_by-set, sum_by-cons, get_or-le-sum_by}
+use Rattle.std.proofs.lemmas.List.Sums.{sum_by-set, sum_by-cons}
 use Rattle.std.proofs.lemmas.Bool.{false≢true, and_parts, eqb-true, eq-eqb}
 use Rattle.variant_values.specs.declared.values.Value.{Value}
 use Rattle.variant_values.specs.declared.values.Key.{Key}
@@ -19,7 +19,7 @@ use Rattle.variant_values.specs.Heaps.{cell_at, is_dict, entries_of, entries_put
 use Rattle.variant_values.proofs.Sweeping.{slot_le}
 use Rattle.variant_values.proofs.Knowing.{value_within, key_within}
 use Rattle.ref_objects.specs.declared.slots.Slot.{Slot}
-use Rattle.ref_objects.specs.Slots.{count_at, cells_of, lives, held_of, IsKept, IsPut, IsNow, IsRaised, IsLowered, IsRecounted, key_more, value_at, value_less}
+use Rattle.ref_objects.specs.Slots.{count_at, cells_of, lives, IsKept, IsPut, IsNow, IsRaised, IsLowered, IsRecounted, key_more, value_at, value_less}
 use Rattle.ref_objects.proofs.Raising.{lives-cells, lives_same}
 use Rattle.ref_objects.proofs.Weights.{in_cells_le}
 use Rattle.ref_objects.proofs.Putting.{slot_weight_le}

@@ -1,5 +1,5 @@
 -- An object and its subtree are taken away.
-use Rattle.std.proofs.Common.{◌≡◌, ℕ, ◌+◌, ◌-◌, ◌<◌, ◌≤◌, Bool, true, false, not, cond, List, length, get_or, set, refl, sym, ◌∙◌, ap, subst, Option, Some, None, is_some, arith, inl, inr, ◌⊎◌}
+use Rattle.std.proofs.Common.{◌≡◌, ℕ, ◌+◌, ◌-◌, ◌<◌, ◌≤◌, Bool, true, false, not, cond, List, length, get_or, set, refl, sym, ◌∙◌, ap, subst, Option, Some, None, is_some, arith, inl, inr}
 use Rattle.std.proofs.lemmas.List.{set_past, map-set, get_or-set_same, get_or-set_other, get_or_past, length-set, length-map}
 use Rattle.std.proofs.lemmas.List.Elements.{All-filter}
 use Rattle.std.specs.Prelude.{nat_eq}
@@ -9,7 +9,7 @@ use Rattle.variant_values.specs.declared.cells.NodePart.{NodePart}
 use Rattle.variant_values.specs.declared.cells.Cell.{Cell}
 use Rattle.variant_values.specs.declared.cells.Cell.TheVariants.{Array as ArrayCell, Dict as DictCell, Object as ObjectCell}
 use Rattle.variant_values.specs.Places.{in_cell, in_slot, in_cells, cell_weight, weight}
-use Rattle.variant_values.specs.Heaps.{Heap, cell_at, is_living, is_object, is_array, is_dict, is_no_container, knows_object, KnowsSlot, KnowsNode}
+use Rattle.variant_values.specs.Heaps.{cell_at, is_living, is_object, is_array, is_dict, is_no_container, knows_object, KnowsSlot, KnowsNode}
 use Rattle.variant_values.specs.Links.{connections_of, connections_in}
 use Rattle.variant_values.specs.Sweeps.{cut_slot}
 use Rattle.variant_values.specs.Trees.{parent_of, parent_in, is_node, node_put, bereft, without_child, without_child_of, IsRooted, IsUnder, itself, below, IsFreed}
@@ -395,11 +395,11 @@ module _ (a c : List Slot) (x : ℕ) (p : IsPruned a c x) where
   pruned_steady total left s k = record {
     kept = k;
     rooted = λ y q e.
-      let was = left_parent y q e in
-      elim (p.each q.0) [
-        | inl went ↦ absurd (was.0 (below y q was.1 went.0))
-        | inr stays ↦ ap is_node stays.1 ∙ cut_node (is_living (cells_of c)) (cell_at (without_child (cells_of a) x) q.0) ∙ without_same is_node bereft_node (cells_of a) x q.0 ∙ s.rooted y q was.1
-      ];
+        let was = left_parent y q e in
+        elim (p.each q.0) [
+          | inl went ↦ absurd (was.0 (below y q was.1 went.0))
+          | inr stays ↦ ap is_node stays.1 ∙ cut_node (is_living (cells_of c)) (cell_at (without_child (cells_of a) x) q.0) ∙ without_same is_node bereft_node (cells_of a) x q.0 ∙ s.rooted y q was.1
+        ];
     few_links = omega (arith, no_more, s.few_links);
   }
     where

@@ -1,26 +1,21 @@
 -- A cell is given the next serial.
-use Rattle.std.proofs.Common.{[], ◌∷◌, ◌++◌, ◌≡◌, ℕ, zero, suc, ◌+◌, ◌-◌, ◌^◌, ◌<◌, ◌≤◌, true, false, cond, nat_lt, List, length, get_or, set, refl, sym, ◌∙◌, ap, subst, Option, Some, None, is_some, arith, inl, inr, All}
+use Rattle.std.proofs.Common.{[], ◌∷◌, ◌++◌, ◌≡◌, ℕ, zero, suc, ◌+◌, ◌-◌, ◌^◌, ◌<◌, ◌≤◌, true, false, cond, List, length, get_or, set, refl, sym, ◌∙◌, ap, subst, Option, Some, None, is_some, arith, inl, inr, All}
 use Rattle.std.specs.List.{sum_by}
 use Rattle.std.proofs.lemmas.List.{map-set, map_push, set_at, length-set, length-map, length_push, get_or_push, get_or_append_left, get_or_past, get_or_default}
 use Rattle.std.proofs.lemmas.List.Sums.{sum_by_push, sum_by-cons}
 use Rattle.std.proofs.lemmas.List.Elements.{All-head, All-tail}
-use Rattle.std.proofs.lemmas.Bool.{cases_eq, cases_lt, cases_Bool, false≢true, and_parts, and_from, ltb-true, lt-ltb, ne_eqb}
-use Rattle.variant_values.specs.declared.values.Serial.{Serial}
-use Rattle.variant_values.specs.declared.values.Value.{Value}
-use Rattle.variant_values.specs.declared.values.Value.TheVariants.{Null, Bool as Truth, Int, Str, Array, Dict, Object, Callable, Signal, Class, Scene, Weak}
-use Rattle.variant_values.specs.declared.values.Key.{Key}
-use Rattle.variant_values.specs.declared.values.Key.TheVariants.{Bool as KeyTruth, Int as KeyInt, Str as KeyStr, Object as KeyObject}
+use Rattle.std.proofs.lemmas.Bool.{cases_eq, cases_lt, cases_Bool, false≢true, ne_eqb}
 use Rattle.variant_values.specs.declared.cells.Cell.{Cell}
 use Rattle.variant_values.specs.declared.cells.Cell.TheVariants.{Array as ArrayCell, Dict as DictCell, Object as ObjectCell}
 use Rattle.variant_values.specs.Places.{place_of, key_place, one_at, in_value, in_entry, in_cell, in_slot, in_cells, cell_weight, slot_weight, weight}
-use Rattle.variant_values.specs.Heaps.{cell_at, is_array, is_dict, is_no_container, knows, knows_key, knows_object, KnowsCell, KnowsSlot}
+use Rattle.variant_values.specs.Heaps.{cell_at, KnowsCell, KnowsSlot}
 use Rattle.ref_objects.specs.declared.slots.Slot.{Slot}
 use Rattle.ref_objects.specs.Slots.{gone, slot_at, count_at, cells_of, lives, held_of, IsKept, IsRaised, IsGrown, IsCellWithin}
 use Rattle.ref_objects.proofs.Raising.{lives-cells}
 use Rattle.ref_objects.proofs.Holding.{held_is, length-held_of, get_or-held_of, lives_within}
 use Rattle.ref_objects.proofs.Weights.{in_cells_le, in_cell_le}
 use Rattle.ref_objects.proofs.Knowing.{cell_within}
-use Rattle.variant_values.proofs.Knowing.{array_within, dict_within, slot_grows, value_grows}
+use Rattle.variant_values.proofs.Knowing.{slot_grows}
 use Rattle.ref_objects.proofs.Cutting.{count-put}
 
 -- nothing holds a serial that was not given

@@ -10,4 +10,3 @@ pub cell_within : (cells : List (Option Cell)) (n : ℕ) (c : Cell) → n ≡ le
 cell_within cells n (ArrayCell vs of) e h k = λ i d l. rw e (value_within cells (get_or vs i d) h (k i d l))
 cell_within cells n (DictCell es) e h k = λ i d l. rw e (key_within cells (get_or es i d).0 h (k i d l).0, value_within cells (get_or es i d).1 h (k i d l).1)
 cell_within cells n (ObjectCell o) e h k = λ i d l. rw e (value_within cells (get_or o.fields i d) h (k.0 i d l))
-

@@ -1,5 +1,5 @@
 -- An object gets or loses a connection.
-use Rattle.std.proofs.Common.{◌≡◌, ℕ, ◌+◌, ◌<◌, ◌≤◌, ◌^◌, Bool, true, false, not, nat_lt, ◌&&◌, List, [], ◌∷◌, ◌++◌, filter, length, set, refl, sym, ◌∙◌, ap, subst, Option, Some, None, is_some, arith, inl, inr, All}
+use Rattle.std.proofs.Common.{◌≡◌, ℕ, ◌<◌, true, not, nat_lt, List, [], ◌∷◌, ◌++◌, filter, length, set, refl, sym, ◌∙◌, ap, subst, Option, Some, None, is_some, arith, inl, inr, All}
 use Rattle.std.specs.Prelude.{Result, Ok, Err, OnOk, OnErr}
 use Rattle.std.proofs.lemmas.List.{length-map, length_push, get_or_past}
 use Rattle.std.proofs.lemmas.List.Elements.{All-filter, All-push}
@@ -10,10 +10,10 @@ use Rattle.variant_values.specs.declared.faults.Trouble.{Trouble}
 use Rattle.variant_values.specs.declared.cells.Connection.{Connection}
 use Rattle.variant_values.specs.declared.cells.Cell.{Cell}
 use Rattle.variant_values.specs.declared.cells.Cell.TheVariants.{Array as ArrayCell, Dict as DictCell, Object as ObjectCell}
-use Rattle.variant_values.specs.Heaps.{Heap, cell_at, is_object, is_living, is_no_container, knows_object}
+use Rattle.variant_values.specs.Heaps.{Heap, cell_at, is_object, is_no_container, knows_object}
 use Rattle.variant_values.specs.Links.{connections_of, connections_put, connections_in, is_connection, connected, disconnected}
 use Rattle.ref_objects.specs.declared.slots.Slot.{Slot}
-use Rattle.ref_objects.specs.Slots.{cells_of, lives, heap_of, IsSteady, IsNow, IsPut}
+use Rattle.ref_objects.specs.Slots.{cells_of, heap_of, IsSteady, IsNow, IsPut}
 use Rattle.ref_objects.proofs.Raising.{lives-cells}
 use Rattle.ref_objects.proofs.Holding.{same_heap}
 use Rattle.ref_objects.proofs.Steady.{links_now, links_before, links_steady}

@@ -1,5 +1,5 @@
 -- Values are put into an array in the place of others.
-use Rattle.std.proofs.Common.{get_or, ◌≡◌, ℕ, ◌+◌, ◌-◌, ◌<◌, ◌≤◌, ◌^◌, true, false, cond, List, [], ◌∷◌, ◌++◌, take, drop, length, set, refl, sym, ◌∙◌, ap, subst, Option, Some, None, is_some, arith, inl, inr, All}
+use Rattle.std.proofs.Common.{get_or, ◌≡◌, ℕ, ◌+◌, ◌-◌, ◌<◌, ◌≤◌, ◌^◌, true, cond, List, [], ◌∷◌, ◌++◌, take, drop, length, set, refl, sym, ◌∙◌, ap, subst, Option, Some, None, is_some, arith, inl, inr, All}
 use Rattle.std.specs.List.{sum_by, slice_range}
 use Rattle.std.proofs.Math.Seq.{drop-append_seam, take-append_seam}
 use Rattle.std.proofs.lemmas.List.{append_assoc, length-map, length-set, length-append, length-take-le, drop-drop, take-append-drop, get_or-set_same, set-set, set-get_or}
@@ -15,8 +15,8 @@ use Rattle.variant_values.specs.Heaps.{cell_at, is_array, items_of, items_put, s
 use Rattle.variant_values.proofs.Sweeping.{slot_le}
 use Rattle.variant_values.proofs.Knowing.{value_within}
 use Rattle.ref_objects.specs.declared.slots.Slot.{Slot}
-use Rattle.ref_objects.specs.Slots.{count_at, cells_of, lives, held_of, IsKept, IsPut, IsNow, IsRaised, IsLowered, IsRecounted, none_more}
-use Rattle.ref_objects.proofs.Raising.{lives-cells, lives_same, length_same}
+use Rattle.ref_objects.specs.Slots.{count_at, cells_of, lives, IsKept, IsPut, IsNow, IsRaised, IsLowered, IsRecounted, none_more}
+use Rattle.ref_objects.proofs.Raising.{lives-cells, lives_same}
 use Rattle.ref_objects.proofs.Weights.{in_cells_le, one_at_le}
 use Rattle.ref_objects.proofs.Putting.{slot_weight_le}
 use Rattle.ref_objects.proofs.Swapping.{IsSameKind, IsSwapped, kind_kept, swapped_kept, swapped_held}
@@ -112,11 +112,11 @@ items_same (Some (ArrayCell vs of)) d = refl
 items_same (Some (DictCell fs)) d = absurd (false≢true d)
 items_same (Some (ObjectCell o)) d = absurd (false≢true d)
 
-items_twice : (vs ws : List Value) (s : Option Cell) → items_put vs (items_put ws s) ≡ items_put vs s
-items_twice vs ws None = refl
-items_twice vs ws (Some (ArrayCell us of)) = refl
-items_twice vs ws (Some (DictCell fs)) = refl
-items_twice vs ws (Some (ObjectCell o)) = refl
+items_twice : (vs us : List Value) (s : Option Cell) → items_put vs (items_put us s) ≡ items_put vs s
+items_twice vs us None = refl
+items_twice vs us (Some (ArrayCell ts of)) = refl
+items_twice vs us (Some (DictCell fs)) = refl
+items_twice vs us (Some (ObjectCell o)) = refl
 
 items_all : (cells : List (Option Cell)) (s : Option Cell) → is_array s ≡ true → KnowsSlot cells s → KnowsAll cells (items_of s)
 items_all cells None d k = absurd (false≢true d)

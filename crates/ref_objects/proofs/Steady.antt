@@ -1,7 +1,7 @@
 -- What is true of a heap stays so.
-use Rattle.std.proofs.Common.{All, Bool, not, ◌&&◌, ◌++◌, ◌≡◌, ℕ, ◌+◌, ◌<◌, ◌≤◌, ◌^◌, true, false, List, [], ◌∷◌, zero, suc, length, get_or, set, refl, sym, ◌∙◌, ap, subst, Option, Some, None, is_some, arith, inl, inr}
+use Rattle.std.proofs.Common.{All, Bool, not, ◌&&◌, ◌++◌, ◌≡◌, ℕ, ◌+◌, ◌<◌, ◌≤◌, ◌^◌, true, false, List, [], ◌∷◌, suc, length, set, refl, sym, ◌∙◌, ap, subst, Option, Some, None, is_some, arith, inl, inr}
 use Rattle.std.specs.Prelude.{IfSome}
-use Rattle.std.specs.List.{sum_by, list_any}
+use Rattle.std.specs.List.{list_any}
 use Rattle.std.proofs.lemmas.List.{length-map, get_or-set_same, get_or-set_other, get_or_past, get_or_append_left, get_or_push, length_push, set_past}
 use Rattle.std.proofs.lemmas.List.Filters.{length-filter_both}
 use Rattle.std.proofs.lemmas.List.Sums.{sum_by-set, sum_by-cons, sum_by_push}
@@ -53,10 +53,10 @@ rooted_put cells x t h p n r y q e = here q.0 ∙ r y q (sym (there y) ∙ e)
 pub steady_put : (a b : List Slot) (x total total' : ℕ) (t : Option Cell) → IsSteady a total → IsKept b total' → cells_of b ≡ set (cells_of a) x t → parent_of t ≡ parent_of (cell_at (cells_of a) x) → is_node t ≡ is_node (cell_at (cells_of a) x) → connections_of t ≡ connections_of (cell_at (cells_of a) x) → IsSteady b total'
 steady_put a b x total total' t s k e p n l = elim (cases_lt x (length (cells_of a))) [
   | inl within ↦ record {
-      kept = k;
-      rooted = rw e (rooted_put (cells_of a) x t within p n s.rooted);
-      few_links = rw e (omega (arith, sum_by-set (λ w. length (connections_of w)) (cells_of a) x t None within, ap length l, s.few_links));
-    }
+    kept = k;
+    rooted = rw e (rooted_put (cells_of a) x t within p n s.rooted);
+    few_links = rw e (omega (arith, sum_by-set (λ w. length (connections_of w)) (cells_of a) x t None within, ap length l, s.few_links));
+  }
   | inr past ↦ steady_same a b total total' s k (e ∙ set_past (cells_of a) x t past)
 ]
 

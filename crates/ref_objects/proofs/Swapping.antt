@@ -1,18 +1,12 @@
 -- A cell is replaced by another of its kind.
-use Rattle.std.proofs.Common.{◌≡◌, ℕ, ◌+◌, ◌<◌, ◌≤◌, Bool, true, false, ◌&&◌, nat_lt, List, length, get_or, set, refl, sym, ◌∙◌, ap, subst, Option, Some, None, is_some, arith, inl, inr}
+use Rattle.std.proofs.Common.{◌≡◌, ℕ, ◌+◌, ◌<◌, ◌≤◌, Bool, true, false, List, length, get_or, set, sym, ◌∙◌, ap, subst, Option, None, is_some, arith, inl, inr}
 use Rattle.std.proofs.lemmas.List.{get_or-set_same, get_or-set_other, length-set, length-map}
 use Rattle.std.proofs.lemmas.List.Sums.{sum_by-set}
 use Rattle.std.proofs.lemmas.Bool.{cases_eq}
-use Rattle.variant_values.specs.declared.values.Serial.{Serial}
-use Rattle.variant_values.specs.declared.values.Value.{Value}
-use Rattle.variant_values.specs.declared.values.Value.TheVariants.{Null, Bool as Truth, Int, Str, Array, Dict, Object, Callable, Signal, Class, Scene, Weak}
-use Rattle.variant_values.specs.declared.values.Key.{Key}
-use Rattle.variant_values.specs.declared.values.Key.TheVariants.{Bool as KeyTruth, Int as KeyInt, Str as KeyStr, Object as KeyObject}
 use Rattle.variant_values.specs.declared.cells.Cell.{Cell}
-use Rattle.variant_values.specs.declared.cells.Cell.TheVariants.{Array as ArrayCell, Dict as DictCell, Object as ObjectCell}
 use Rattle.variant_values.specs.Places.{in_slot, slot_weight, weight}
 use Rattle.variant_values.proofs.Knowing.{IsAlike, slot_alike}
-use Rattle.variant_values.specs.Heaps.{cell_at, is_array, is_dict, is_no_container, knows, knows_key, knows_object, KnowsSlot}
+use Rattle.variant_values.specs.Heaps.{cell_at, is_array, is_dict, is_no_container, KnowsSlot}
 use Rattle.ref_objects.specs.declared.slots.Slot.{Slot}
 use Rattle.ref_objects.specs.Slots.{count_at, cells_of, lives, held_of, IsKept}
 use Rattle.ref_objects.proofs.Raising.{lives-cells}

@@ -1,9 +1,9 @@
 //! Tests at run time of what the heap's calls require, for the tests.
-ghost use Rattle.std.specs.Prelude.{◌≡◌, ◌<◌, ◌≤◌, ◌^◌, length, true, false, is_some, Some, ◌⊎◌};
+ghost use Rattle.std.specs.Prelude.{◌≡◌, ◌<◌, ◌≤◌, ◌^◌, length, true, false, is_some, slice_index_or};
 ghost use Rattle.variant_values.specs.Places.{place_of, key_place, one_at, in_value, in_values, in_entries, in_slot, in_cells, is_counted};
 ghost use Rattle.variant_values.specs.Heaps.{cell_at, is_living, held_at, is_given, is_array, is_dict, is_object, is_no_container, knows, knows_key, knows_object, KnowsAll, field_in, items_of};
 ghost use Rattle.variant_values.specs.Trees.{IsUnder, is_node, parent_of};
-ghost use Rattle.ref_objects.specs.Slots.{cells_of, count_at};
+ghost use Rattle.ref_objects.specs.Slots.{cells_of, count_at, held_of};
 
 use crate::counts::{key_place, place_of};
 use crate::fields::field_at;
@@ -210,6 +210,18 @@ fn count(slots: &[Slot], x: u64) -> u128
     slots[x as usize].count
 }
 
+fn few(slots: &[Slot], x: u64) -> bool
+    ensures { result ≡ true → slice_index_or (held_of slots.now) x 0 < 2 ^ 100 }
+{
+    count(slots, x) < 1_000_000
+}
+
+fn held(slots: &[Slot], x: u64) -> bool
+    ensures { result ≡ true → 0 < slice_index_or (held_of slots.now) x 0 }
+{
+    places(slots, x) < count(slots, x)
+}
+
 /// Whether a node is not in the subtree of another, as far as so many parents tell.
 fn is_apart(slots: &[Slot], top: u64, x: u64, fuel: u32) -> bool
     ensures { result ≡ true → IsUnder (cells_of slots.now) top x → ⊥ }
@@ -297,15 +309,14 @@ impl Heap {
     pub fn is_few(&self, v: &Value) -> bool
         ensures { result ≡ true → held_at self.now (place_of v.now) < 2 ^ 100 }
     {
-        count(self.slots.as_slice(), place_of(v)) < 1_000_000
+        few(self.slots.as_slice(), place_of(v))
     }
 
     /// Whether a caller holds a value of a cell.
     pub fn is_held(&self, v: &Value) -> bool
         ensures { result ≡ true → 0 < held_at self.now (place_of v.now) }
     {
-        let x = place_of(v);
-        places(self.slots.as_slice(), x) < count(self.slots.as_slice(), x)
+        held(self.slots.as_slice(), place_of(v))
     }
 
     /// Whether a node is not in the subtree of another.

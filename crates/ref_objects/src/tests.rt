@@ -76,12 +76,7 @@ fn let_go(rt: &impl Abort, heap: &mut Heap, v: &Value) {
     heap.release(v);
 }
 
-fn put_field(
-    rt: &impl Abort,
-    heap: &mut Heap,
-    of: Serial,
-    to: Value,
-) -> Result<(), Trouble> {
+fn put_field(rt: &impl Abort, heap: &mut Heap, of: Serial, to: Value) -> Result<(), Trouble> {
     assert!(rt; heap.knows_object(of));
     assert!(rt; heap.has_field(of, 0));
     assert!(rt; heap.knows(&to));
@@ -122,12 +117,7 @@ fn connect(
     Ok(())
 }
 
-fn adopt(
-    rt: &impl Abort,
-    heap: &mut Heap,
-    parent: Serial,
-    child: Serial,
-) -> Result<(), Fail> {
+fn adopt(rt: &impl Abort, heap: &mut Heap, parent: Serial, child: Serial) -> Result<(), Fail> {
     assert!(rt; heap.is_node(parent));
     assert!(rt; heap.is_node(child));
     assert!(rt; heap.parent(child).is_none());
@@ -227,8 +217,14 @@ fn a_full_heap_takes_no_more(rt: HostRuntime) -> Result<(), Fail> {
     let full = Err(Trouble::Fault(RunFault::HeapFull));
     assert_eq!(rt; push(&rt, &mut heap, s, Value::Str(text.clone()?))?, full);
     assert_eq!(rt; heap.items_len(s), 63);
-    assert_eq!(rt; put_field(&rt, &mut heap, o, Value::Str(text.clone()?)), full);
-    assert_eq!(rt; put_entry(&rt, &mut heap, d, Key::Int(1), Value::Str(text.clone()?)), full);
+    assert_eq!(rt;
+        put_field(&rt, &mut heap, o, Value::Str(text.clone()?)),
+        full
+    );
+    assert_eq!(rt;
+        put_entry(&rt, &mut heap, d, Key::Int(1), Value::Str(text.clone()?)),
+        full
+    );
     Ok(())
 }
 

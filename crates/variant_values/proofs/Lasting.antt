@@ -1,5 +1,5 @@
 -- What is known stays known over a sweep.
-use Rattle.std.proofs.Common.{◌≡◌, ℕ, ◌<◌, true, List, sym, ◌∙◌, ap, Option, Some, None, arith, inl, inr, refl, Bool, nat_lt, ◌&&◌, length}
+use Rattle.std.proofs.Common.{◌≡◌, ℕ, ◌<◌, true, List, ◌∙◌, ap, Option, Some, None, arith, inl, inr, refl, Bool, nat_lt, length}
 use Rattle.std.proofs.lemmas.Bool.{and_parts, and_from}
 use Rattle.std.specs.Prelude.{slice_index_or}
 use Rattle.variant_values.specs.declared.values.Serial.{Serial}
@@ -8,7 +8,7 @@ use Rattle.variant_values.specs.declared.values.Value.TheVariants.{Null, Bool as
 use Rattle.variant_values.specs.declared.cells.Cell.{Cell}
 use Rattle.variant_values.specs.declared.cells.Cell.TheVariants.{Array as ArrayCell, Dict as DictCell, Object as ObjectCell}
 use Rattle.variant_values.specs.Places.{place_of, in_slot}
-use Rattle.variant_values.specs.Heaps.{Heap, cell_at, held_at, is_living, is_array, is_dict, is_no_container, knows, knows_object}
+use Rattle.variant_values.specs.Heaps.{Heap, cell_at, is_living, is_array, is_dict, is_no_container, knows, knows_object}
 use Rattle.variant_values.specs.Sweeps.{Goes, goes, cut_slot, IsSwept}
 
 -- what a caller holds stays

@@ -1,5 +1,5 @@
 -- What a weight leaves of a room.
-use Rattle.std.proofs.Common.{◌≡◌, ℕ, ◌<◌, ◌≤◌, ◌-◌, cond, sym, ap, ◌∙◌, Option, Some, None, is_some, inl, inr}
+use Rattle.std.proofs.Common.{◌≡◌, ℕ, ◌<◌, ◌≤◌, ◌-◌, cond, sym, ap, ◌∙◌, Some, None, is_some, inl, inr}
 use Rattle.std.proofs.lemmas.Bool.{lt-leb, le-leb, cases_lt, false≢true}
 use Rattle.variant_values.specs.Places.{room_left}
 

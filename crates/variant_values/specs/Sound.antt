@@ -1,5 +1,5 @@
 -- What is true of every heap.
-use Rattle.std.specs.Prelude.{ℕ, ◌≤◌, ◌<◌, ◌^◌, Bool, false, length, ◌≡◌}
+use Rattle.std.specs.Prelude.{ℕ, ◌≤◌, ◌<◌, ◌^◌, false, length, ◌≡◌}
 use Rattle.variant_values.specs.Places.{weight}
 use Rattle.variant_values.specs.Heaps.{Heap, cell_at, held_at, is_living, KnowsSlot}
 use Rattle.variant_values.specs.Links.{connections_in}

@@ -1,6 +1,6 @@
 use Rattle.std.proofs.Common.{◌≡◌, ◌+◌, ◌-◌, ◌<◌, ◌^◌, ℕ, List, refl, subst, sym, arith, set, Some}
 use Rattle.variant_values.specs.Places.{in_cell, cell_weight}
-use Rattle.variant_values.proofs.Rooms.{room_has, room_lacks}
+use Rattle.variant_values.proofs.Rooms.{room_has}
 use Rattle.ref_objects.specs.declared.slots.Slot.{Slot}
 use Rattle.ref_objects.specs.Slots.{count_at, slot_at, IsRaised, IsGrown}
 use Rattle.ref_objects.proofs.Growing.{room_for, grown}

@@ -1,7 +1,5 @@
-use Rattle.std.proofs.Common.{sym, ◌∙◌, ap, Option, Some, List, []}
-use Rattle.variant_values.specs.declared.values.Value.{Value}
+use Rattle.std.proofs.Common.{sym, ◌∙◌, ap, Some}
 use Rattle.variant_values.specs.declared.cells.Cell.{Cell}
-use Rattle.variant_values.specs.declared.cells.Cell.TheVariants.{Array as ArrayCell}
 use Rattle.variant_values.specs.Heaps.{items_put}
 use Rattle.ref_objects.proofs.Putting.{put_done}
 use Rattle.ref_objects.proofs.arrays.put_items.Goals as goal

@@ -1,4 +1,4 @@
-use Rattle.std.proofs.Common.{◌≡◌, ◌+◌, ◌-◌, ◌∙◌, ap, arith}
+use Rattle.std.proofs.Common.{◌-◌, ◌∙◌, ap, arith}
 use Rattle.std.specs.List.{sum_by}
 use Rattle.variant_values.specs.Places.{item_weight, room_left}
 use Rattle.ref_objects.proofs.Splicing.{light_range, light_le, weight_spliced, room_shift}

@@ -1,12 +1,12 @@
-use Rattle.std.proofs.Common.{◌≡◌, ◌<◌, ◌≤◌, ◌+◌, ◌-◌, ◌^◌, ◌++◌, ◌∙◌, ℕ, All, true, ap, sym, subst, arith, List, take, drop, length, set, Some}
-use Rattle.std.specs.List.{slice_range, sum_by}
+use Rattle.std.proofs.Common.{◌≡◌, ◌<◌, ◌≤◌, ◌+◌, ◌-◌, ◌^◌, ◌++◌, ◌∙◌, ℕ, true, ap, subst, arith, List, take, drop, length, set, Some}
+use Rattle.std.specs.List.{slice_range}
 use Rattle.variant_values.specs.declared.values.Value.{Value}
-use Rattle.variant_values.specs.Places.{in_values, item_weight, room_left, weight}
+use Rattle.variant_values.specs.Places.{in_values, room_left, weight}
 use Rattle.variant_values.specs.Heaps.{cell_at, items_of, items_put, spliced}
 use Rattle.variant_values.proofs.Rooms.{room_has}
 use Rattle.ref_objects.specs.declared.slots.Slot.{Slot}
 use Rattle.ref_objects.specs.Slots.{cells_of, lives, count_at, IsRecounted, none_more}
-use Rattle.ref_objects.proofs.Splicing.{trade_long, trade_within, trade_room, trade_held, traded_now, back_now, put_light}
+use Rattle.ref_objects.proofs.Splicing.{trade_within, trade_room, trade_held, traded_now, back_now, put_light}
 use Rattle.ref_objects.proofs.arrays.store_splice.Goals as goal
 
 abbrev weight_then : List Slot → ℕ → ℕ → ℕ → List Value → ℕ

@@ -1,8 +1,8 @@
-use Rattle.std.proofs.Common.{◌≡◌, ◌+◌, ◌≤◌, ℕ, true, ap, sym, subst, List}
+use Rattle.std.proofs.Common.{◌≡◌, ◌+◌, ◌≤◌, ℕ, true, sym, subst, List}
 use Rattle.std.specs.List.{slice_range}
 use Rattle.variant_values.specs.declared.values.Value.{Value}
 use Rattle.variant_values.specs.Places.{in_values}
-use Rattle.ref_objects.specs.Slots.{lives, count_at, none_more, IsRaised, IsLowered, IsRecounted}
+use Rattle.ref_objects.specs.Slots.{lives, count_at, IsRaised, IsLowered}
 use Rattle.ref_objects.proofs.Splicing.{traded, traded_held}
 use Rattle.ref_objects.proofs.arrays.trade.Goals as goal
 

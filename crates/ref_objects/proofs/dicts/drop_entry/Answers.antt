@@ -1,4 +1,4 @@
-use Rattle.std.proofs.Common.{◌≡◌, ◌∙◌, ap, arith, sym, None}
+use Rattle.std.proofs.Common.{arith}
 use Rattle.ref_objects.proofs.Entering.{absent_now, key_in, key_held, value_in, value_held, taken_now, weight_taken}
 use Rattle.ref_objects.proofs.dicts.drop_entry.Goals as goal
 

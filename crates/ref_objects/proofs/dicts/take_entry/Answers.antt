@@ -3,9 +3,9 @@ use Rattle.variant_values.specs.declared.values.Key.{Key}
 use Rattle.variant_values.specs.declared.values.Value.{Value}
 use Rattle.variant_values.specs.declared.cells.Cell.{Cell}
 use Rattle.variant_values.specs.declared.cells.Cell.TheVariants.{Dict as DictCell}
-use Rattle.variant_values.specs.Keys.{with_entry, without_entry}
+use Rattle.variant_values.specs.Keys.{without_entry}
 use Rattle.variant_values.specs.Heaps.{entries_of, entries_put}
-use Rattle.ref_objects.proofs.Putting.{put_done, put_back}
+use Rattle.ref_objects.proofs.Putting.{put_done}
 use Rattle.ref_objects.proofs.dicts.take_entry.Goals as goal
 
 pub returns-clause-put : goal.returns-clause-put

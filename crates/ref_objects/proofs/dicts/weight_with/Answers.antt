@@ -1,4 +1,4 @@
-use Rattle.std.proofs.Common.{◌≡◌, ◌∙◌, ap, arith, List}
+use Rattle.std.proofs.Common.{◌∙◌, ap, arith, List}
 use Rattle.std.specs.Map.{lookup}
 use Rattle.variant_values.specs.declared.values.Key.{Key}
 use Rattle.variant_values.specs.declared.values.Value.{Value}

@@ -1,9 +1,9 @@
-use Rattle.std.proofs.Common.{◌≡◌, List, subst, Some, None}
+use Rattle.std.proofs.Common.{◌≡◌, List, subst, Some}
 use Rattle.variant_values.specs.Heaps.{cell_at}
 use Rattle.variant_values.specs.Trees.{parent_of}
 use Rattle.ref_objects.specs.declared.slots.Slot.{Slot}
 use Rattle.ref_objects.specs.Slots.{cells_of}
-use Rattle.ref_objects.proofs.Freeing.{parent_object, parent_within, detached_some, detached_none}
+use Rattle.ref_objects.proofs.Freeing.{parent_object, detached_some}
 use Rattle.ref_objects.proofs.frees.detach.Goals as goal
 
 pub drop_child-requires-clause-object : goal.drop_child-requires-clause-object

@@ -1,4 +1,4 @@
-use Rattle.ref_objects.proofs.Freeing.{detached_object, detached_within, detached_rooted, freeing_top, pruned}
+use Rattle.ref_objects.proofs.Freeing.{detached_within, detached_rooted, freeing_top, pruned}
 use Rattle.ref_objects.proofs.frees.free_tree.Goals as goal
 
 pub returns-clause-pruned : goal.returns-clause-pruned

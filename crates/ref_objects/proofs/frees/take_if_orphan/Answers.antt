@@ -1,4 +1,4 @@
-use Rattle.std.proofs.Common.{◌≡◌, List, true, ap, subst, sym, ◌∙◌}
+use Rattle.std.proofs.Common.{List, ap, sym, ◌∙◌}
 use Rattle.ref_objects.specs.declared.slots.Slot.{Slot}
 use Rattle.ref_objects.specs.Slots.{cells_of, is_orphan}
 use Rattle.ref_objects.proofs.Freeing.{orphan_object, free_pass_more}

@@ -1,4 +1,3 @@
-use Rattle.std.proofs.Common.{sym}
 use Rattle.ref_objects.proofs.Freeing.{clear_held, cleared_lost, cleared_kept}
 use Rattle.ref_objects.proofs.frees.take_object.Goals as goal
 

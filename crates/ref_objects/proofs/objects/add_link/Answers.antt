@@ -1,7 +1,7 @@
 use Rattle.std.proofs.Common.{sym, ◌∙◌, ap, Option, Some, List, ◌++◌, ◌∷◌, []}
 use Rattle.variant_values.specs.declared.cells.Cell.{Cell}
 use Rattle.variant_values.specs.declared.cells.Cell.TheVariants.{Object as ObjectCell}
-use Rattle.variant_values.specs.Links.{connections_of, connections_put, is_connection}
+use Rattle.variant_values.specs.Links.{connections_of, connections_put}
 use Rattle.variant_values.specs.declared.cells.Connection.{Connection}
 use Rattle.ref_objects.proofs.Putting.{put_done, put_back}
 use Rattle.ref_objects.proofs.objects.add_link.Goals as goal

@@ -1,4 +1,4 @@
-use Rattle.std.proofs.Common.{◌≡◌, ◌≤◌, cond, take, length}
+use Rattle.std.proofs.Common.{◌≡◌, take, length}
 use Rattle.std.specs.List.{sum_by}
 use Rattle.variant_values.specs.Links.{connections_of}
 use Rattle.ref_objects.specs.Slots.{cells_of}

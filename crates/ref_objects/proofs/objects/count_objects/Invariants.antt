@@ -1,4 +1,4 @@
-use Rattle.std.proofs.Common.{◌≡◌, ◌≤◌, cond, take, length}
+use Rattle.std.proofs.Common.{◌≡◌, ◌≤◌, cond, take}
 use Rattle.std.specs.List.{sum_by}
 use Rattle.variant_values.specs.Heaps.{is_object}
 use Rattle.ref_objects.specs.Slots.{cells_of}

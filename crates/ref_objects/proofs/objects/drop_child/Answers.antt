@@ -1,7 +1,7 @@
-use Rattle.std.proofs.Common.{sym, ◌∙◌, ap, Option, Some}
+use Rattle.std.proofs.Common.{sym, ◌∙◌, ap, Some}
 use Rattle.variant_values.specs.declared.cells.Cell.{Cell}
 use Rattle.variant_values.specs.declared.cells.Cell.TheVariants.{Object as ObjectCell}
-use Rattle.variant_values.specs.Trees.{node_put, named, placed, bereft}
+use Rattle.variant_values.specs.Trees.{node_put, bereft}
 use Rattle.variant_values.specs.declared.cells.ObjectCell.{ObjectCell as AnObject}
 use Rattle.ref_objects.proofs.Putting.{put_done}
 use Rattle.ref_objects.proofs.objects.drop_child.Goals as goal

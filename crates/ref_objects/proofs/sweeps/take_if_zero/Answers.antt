@@ -1,6 +1,4 @@
-use Rattle.std.proofs.Common.{◌≡◌, true, false, subst, sym, ◌∙◌, ap}
-use Rattle.ref_objects.specs.declared.slots.Slot.{Slot}
-use Rattle.ref_objects.specs.Slots.{is_zero, slot_at}
+use Rattle.std.proofs.Common.{sym, ◌∙◌}
 use Rattle.ref_objects.proofs.Emptying.{passing_more, read_zero}
 use Rattle.ref_objects.proofs.sweeps.take_if_zero.Goals as goal
 

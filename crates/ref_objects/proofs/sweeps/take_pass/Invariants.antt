@@ -1,6 +1,3 @@
-use Rattle.std.proofs.Common.{◌≡◌, ◌≤◌, ◌<◌, ℕ, List, false}
-use Rattle.ref_objects.specs.declared.slots.Slot.{Slot}
-use Rattle.ref_objects.specs.Slots.{IsKept}
 use Rattle.ref_objects.specs.Slots.{IsPassing}
 use Rattle.ref_objects.proofs.sweeps.take_pass.Given as goal
 
