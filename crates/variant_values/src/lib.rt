@@ -1,0 +1,12 @@
+//! Values of the language, and the cells of the heap as plain data.
+#![tactic(auto)]
+
+pub mod cells;
+pub mod classes;
+pub mod entries;
+pub mod faults;
+pub mod links;
+pub mod nodes;
+pub mod texts;
+pub mod values;
+pub mod weights;
