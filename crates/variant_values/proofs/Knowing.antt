@@ -169,4 +169,3 @@ slot_grows cells t None k = tt
 slot_grows cells t (Some (ArrayCell vs of)) k = λ i d l. value_grows cells t (get_or vs i d) (k i d l)
 slot_grows cells t (Some (DictCell es)) k = λ i d l. (key_grows cells t (get_or es i d).0 (k i d l).0, value_grows cells t (get_or es i d).1 (k i d l).1)
 slot_grows cells t (Some (ObjectCell o)) k = ((λ i d l. value_grows cells t (get_or o.fields i d) (k.0 i d l)), (λ i d l. object_grows cells t (get_or o.connections i d).target (k.1 i d l)), node_kept cells (cells ++ t ∷ []) o.node (λ s. object_grows cells t s) k.2)
-
