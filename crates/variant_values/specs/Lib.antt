@@ -6,3 +6,4 @@ pub mod Sweeps
 pub mod Links
 pub mod Trees
 pub mod Sound
+pub mod Operators

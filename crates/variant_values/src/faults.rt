@@ -1,3 +1,8 @@
+ghost use Rattle.std.specs.Prelude.{◌≡◌};
+ghost use Rattle.variant_values.specs.declared.faults.Trouble.TheVariants.{Fault, NoMemory};
+
+use std::alloc::{AllocError, AllocFailed};
+
 /// Why a run ends. Where several apply to one operation or call, the first of this list comes.
 #[derive(Clone, Copy, Debug, PartialEq, Eq)]
 pub enum RunFault {
@@ -34,4 +39,28 @@ pub enum RunFault {
 pub enum Trouble {
     Fault(RunFault),
     NoMemory,
+}
+
+impl From<RunFault> for Trouble {
+    ghost from_gives = { λ fault t. t ≡ Fault fault };
+
+    fn from(fault: RunFault) -> Self {
+        Trouble::Fault(fault)
+    }
+}
+
+impl From<AllocError> for Trouble {
+    ghost from_gives = { λ _ t. t ≡ NoMemory };
+
+    fn from(_: AllocError) -> Self {
+        Trouble::NoMemory
+    }
+}
+
+impl<T: Drop> From<AllocFailed<T>> for Trouble {
+    ghost from_gives = { λ _ t. t ≡ NoMemory };
+
+    fn from(_: AllocFailed<T>) -> Self {
+        Trouble::NoMemory
+    }
 }

@@ -7,6 +7,9 @@ pub mod entries;
 pub mod faults;
 pub mod links;
 pub mod nodes;
+#[cfg(test)]
+mod operator_tests;
+pub mod operators;
 pub mod texts;
 pub mod values;
 pub mod weights;
