@@ -27,3 +27,6 @@ pub mod ExistsMembers
 pub mod ExistsScripts
 pub mod StatementSteps
 pub mod ScriptExamples
+pub mod DeclarationSteps
+pub mod MemberSteps
+pub mod Targets

@@ -8,6 +8,7 @@ use Rattle.gd_syntax.specs.declared.token.Kind.{Kind}
 use Rattle.gd_syntax.specs.declared.token.Kind.TheVariants.{Mark as Marked, Name}
 use Rattle.gd_syntax.specs.declared.token.Mark.TheVariants as m
 use Rattle.gd_syntax.specs.declared.token.Token.{Token}
+use Rattle.gd_syntax.specs.declared.tree.expr.Literal.TheVariants as literal
 use Rattle.gd_syntax.specs.declared.tree.member.BaseRoot.TheVariants as root
 use Rattle.gd_syntax.specs.declared.tree.member.Head.TheVariants as h
 use Rattle.gd_syntax.specs.declared.tree.member.Member.TheVariants as member
@@ -16,9 +17,11 @@ use Rattle.gd_syntax.specs.declared.tree.statement.Stmt.TheVariants as s
 use Rattle.gd_syntax.specs.Reading.{Read, Stops, goes, halts, looks, Loop}
 use Rattle.gd_syntax.specs.TokenReading.{kind_at, place_at, Due, OneOf, Item}
 use Rattle.gd_syntax.specs.Refusals.{refusal}
-use Rattle.gd_syntax.specs.StatementGrammar.{block}
+use Rattle.gd_syntax.specs.StatementGrammar.{pats, block}
 use Rattle.gd_syntax.specs.ScriptGrammar.{in_header, script}
-use Rattle.gd_syntax.proofs.StatementSteps.{block_is, block_full, class_is}
+use Rattle.gd_syntax.proofs.PatternSteps.{pattern_is}
+use Rattle.gd_syntax.proofs.StatementSteps.{block_is, block_full, class_is, unbound_is}
+use Rattle.gd_syntax.proofs.Targets.{binds-Bind, binds-Literal}
 
 -- tokens of a line
 abbrev row : ℕ → ℕ → List Kind → List Token
@@ -195,3 +198,25 @@ unfolding kind_at place_at refusal
 no_property = block_is with_property 127 0 _ (looks refl (halts (looks refl (halts (goes refl (goes (goes (OneOf.found refl) refl) (goes
     (looks refl (goes (looks refl (goes refl (goes (goes (OneOf.found refl) (goes (Loop.last (looks refl refl)) (looks refl refl))) refl))) (goes (looks refl refl) refl)))
     (looks refl refl))))))))
+
+-- ---- the patterns of a branch
+
+-- `var f, null` stops at the comma
+abbrev bound_first : List Token
+bound_first = row 1 1 (Marked m.Var ∷ Name f ∷ Marked m.Comma ∷ Marked m.Null ∷ Marked m.Colon ∷ Marked m.End ∷ [])
+
+none_behind_var : pats bound_first 0 (Stops (record { kind = Syntax; place = spot 1 3 }))
+unfolding kind_at place_at refusal
+none_behind_var = goes (pattern_is bound_first 127 0 _ (goes (looks refl (looks refl (goes refl (goes (goes (OneOf.found refl) refl) refl)))) refl))
+    (Loop.stop (looks refl (rw (binds-Bind (spot 1 1) (record { place = spot 1 2; name = f })) refl)))
+
+-- `null, [var f]` stops at `var`
+abbrev bound_later : List Token
+bound_later = row 1 1 (Marked m.Null ∷ Marked m.Comma ∷ Marked m.LBracket ∷ Marked m.Var ∷ Name f ∷ Marked m.RBracket ∷ Marked m.Colon ∷ Marked m.End ∷ [])
+
+no_var_behind : pats bound_later 0 (Stops (record { kind = Syntax; place = spot 1 4 }))
+unfolding kind_at place_at refusal
+no_var_behind = goes (pattern_is bound_later 127 0 _ (goes (looks refl (goes refl refl)) refl))
+    (Loop.stop (looks refl (rw (binds-Literal (spot 1 1) false literal.Null) (goes refl (halts
+    (unbound_is bound_later 127 2 _ (halts (looks refl (looks refl (goes refl (halts (halts (looks refl (halts
+    (unbound_is bound_later 126 3 _ (halts (looks refl (looks refl refl))))))))))))))))))

@@ -48,12 +48,12 @@ abbrev pub with_head : Heads → Head → Heads
 with_head sofar x = (sofar.0 ++ map h.Annotation sofar.1 ++ x ∷ [], [])
 
 abbrev pub is_named : Head → Bool
-is_named (h.ClassName place name base) = true
+is_named (h.ClassName place name b) = true
 is_named _ = false
 
 abbrev pub is_based : Head → Bool
-is_based (h.ClassName place name (Some base)) = true
-is_based (h.Extends place base) = true
+is_based (h.ClassName place name (Some b)) = true
+is_based (h.Extends place b) = true
 is_based _ = false
 
 -- whether a variable or a function begins with this token
