@@ -1,5 +1,5 @@
 -- The readings of the grammar, where a part of a form is an expression with one form more open round it.
-use Rattle.std.specs.Prelude.{ℕ, ◌-◌, List, Option}
+use Rattle.std.specs.Prelude.{ℕ, ◌+◌, ◌-◌, List}
 use Rattle.gd_syntax.specs.declared.fault.Place.{Place}
 use Rattle.gd_syntax.specs.declared.token.Token.{Token}
 use Rattle.gd_syntax.specs.declared.token.Mark.{Mark}
@@ -49,6 +49,9 @@ module _ (tokens : List Token) (room : ℕ) where
   -- an operand that is no literal
   abbrev pub other : Reading Expr
   other = λ at. Look (kind_at tokens) (grammar.other_by tokens room inner (place_at tokens at)) at
+
+  abbrev pub after_brace : Place → Reading Expr
+  after_brace place = Look (λ at. grammar.is_field (kind_at tokens at) (mark_at tokens (at + 1))) (grammar.dict_by tokens room inner place)
 
   abbrev pub after_super : Place → Reading Expr
   after_super place = Look (mark_at tokens) (grammar.super_by tokens room inner place)

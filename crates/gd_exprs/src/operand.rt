@@ -12,8 +12,8 @@ ghost use Rattle.gd_syntax.specs.Levels as tree;
 use crate::found::{Found, FoundEntries, FoundFields, FoundList};
 use crate::levels::AS;
 use crate::reader::{
-    any_name, due, fits, kind_at, literal, mark_at, next_kind, path_text, place_at, plain_name,
-    refuse, skip,
+    any_name, due, fits, kind_at, literal, next_kind, one_name, path_text, place_at, plain_name,
+    refuse, sees, skip,
 };
 use crate::rules::Rules;
 use gd_syntax::{Expr, Kind, Mark, Name, Place, SolveError, Sought, Token};
@@ -97,19 +97,17 @@ impl<F: Fn(Global, &[Token], usize, usize, u8) -> Result<Found, SolveError>> Rul
         })
     }
 
-    /// A dictionary of entries `name = value`.
-    fn table(&self, at: usize) -> Result<Found, SolveError>
+    /// The entries `name = value` of a dictionary.
+    fn table(&self, place: Place, at: usize) -> Result<Found, SolveError>
         requires nests { Nests (self.now.room - 1) (F.pre self.now.inner) (F.post self.now.inner) }
         requires within { at < length self.now.tokens.now }
         requires ended { IsEnded self.now.tokens.now }
         requires some { 1 ≤ self.now.room }
-        requires begins { kind_at self.now.tokens.now at ≡ Kind.Mark Mark.LBrace }
-        requires fields { grammar.is_field (kind_at self.now.tokens.now (at + 1)) (mark_at self.now.tokens.now (at + 1 + 1)) ≡ true }
-        ensures reads { Answers found result (spec.other self.now.tokens.now self.now.room at) }
+        requires begins { grammar.is_field (kind_at self.now.tokens.now at) (mark_at self.now.tokens.now (at + 1)) ≡ true }
+        ensures reads { Answers found result (spec.after_brace self.now.tokens.now self.now.room place at) }
         ensures found { IfOk result (IsFound self.now.tokens.now self.now.room at) }
     {
-        let place = place_at(self.tokens, at);
-        let FoundFields { items, levels, at } = self.fields(skip(self.tokens, at), Mark::RBrace)?;
+        let FoundFields { items, levels, at } = self.fields(at, Mark::RBrace)?;
         Ok(Found {
             tree: Boxed::new(self.alloc, Expr::Table(place, items))?,
             levels: levels + 1,
@@ -117,24 +115,38 @@ impl<F: Fn(Global, &[Token], usize, usize, u8) -> Result<Found, SolveError>> Rul
         })
     }
 
-    /// A dictionary of entries `key: value`.
-    fn pairs(&self, at: usize) -> Result<Found, SolveError>
+    /// The entries `key: value` of a dictionary.
+    fn pairs(&self, place: Place, at: usize) -> Result<Found, SolveError>
         requires nests { Nests (self.now.room - 1) (F.pre self.now.inner) (F.post self.now.inner) }
         requires within { at < length self.now.tokens.now }
         requires ended { IsEnded self.now.tokens.now }
         requires some { 1 ≤ self.now.room }
-        requires begins { kind_at self.now.tokens.now at ≡ Kind.Mark Mark.LBrace }
-        requires entries { grammar.is_field (kind_at self.now.tokens.now (at + 1)) (mark_at self.now.tokens.now (at + 1 + 1)) ≡ false }
-        ensures reads { Answers found result (spec.other self.now.tokens.now self.now.room at) }
+        requires begins { grammar.is_field (kind_at self.now.tokens.now at) (mark_at self.now.tokens.now (at + 1)) ≡ false }
+        ensures reads { Answers found result (spec.after_brace self.now.tokens.now self.now.room place at) }
         ensures found { IfOk result (IsFound self.now.tokens.now self.now.room at) }
     {
-        let place = place_at(self.tokens, at);
-        let FoundEntries { items, levels, at } = self.entries(skip(self.tokens, at), Mark::RBrace)?;
+        let FoundEntries { items, levels, at } = self.entries(at, Mark::RBrace)?;
         Ok(Found {
             tree: Boxed::new(self.alloc, Expr::Dict(place, items))?,
             levels: levels + 1,
             at,
         })
+    }
+
+    /// What stands after `{`.
+    fn after_brace(&self, place: Place, at: usize) -> Result<Found, SolveError>
+        requires nests { Nests (self.now.room - 1) (F.pre self.now.inner) (F.post self.now.inner) }
+        requires within { at < length self.now.tokens.now }
+        requires ended { IsEnded self.now.tokens.now }
+        requires some { 1 ≤ self.now.room }
+        ensures reads { Answers found result (spec.after_brace self.now.tokens.now self.now.room place at) }
+        ensures found { IfOk result (IsFound self.now.tokens.now self.now.room at) }
+    {
+        if is_field(kind_at(self.tokens, at), next_kind(self.tokens, at)) {
+            self.table(place, at)
+        } else {
+            self.pairs(place, at)
+        }
     }
 
     fn dict(&self, at: usize) -> Result<Found, SolveError>
@@ -146,12 +158,8 @@ impl<F: Fn(Global, &[Token], usize, usize, u8) -> Result<Found, SolveError>> Rul
         ensures reads { Answers found result (spec.other self.now.tokens.now self.now.room at) }
         ensures found { IfOk result (IsFound self.now.tokens.now self.now.room at) }
     {
-        let first = skip(self.tokens, at);
-        if is_field(kind_at(self.tokens, first), next_kind(self.tokens, first)) {
-            self.table(at)
-        } else {
-            self.pairs(at)
-        }
+        let place = place_at(self.tokens, at);
+        self.after_brace(place, skip(self.tokens, at))
     }
 
     fn preload(&self, at: usize) -> Result<Found, SolveError>
@@ -261,11 +269,13 @@ impl<F: Fn(Global, &[Token], usize, usize, u8) -> Result<Found, SolveError>> Rul
         ensures reads { Answers found result (spec.after_super self.now.tokens.now self.now.room place at) }
         ensures found { IfOk result (IsFound self.now.tokens.now self.now.room at) }
     {
-        match mark_at(self.tokens, at) {
-            Some(Mark::LParen) => self.super_arguments(place, at),
-            Some(Mark::Dot) => self.super_member(place, at),
-            _ => Err(refuse(self.tokens, at, Sought::Other)),
+        if sees(self.tokens, at, Mark::LParen) {
+            return self.super_arguments(place, at);
         }
+        if sees(self.tokens, at, Mark::Dot) {
+            return self.super_member(place, at);
+        }
+        Err(refuse(self.tokens, at, Sought::Other))
     }
 
     fn super_form(&self, at: usize) -> Result<Found, SolveError>
@@ -309,8 +319,7 @@ impl<F: Fn(Global, &[Token], usize, usize, u8) -> Result<Found, SolveError>> Rul
         ensures found { IfOk result (IsFound self.now.tokens.now self.now.room at) }
     {
         let (name, next) = plain_name(self.tokens, at, Sought::Node)?;
-        let mut first = Items::new(self.alloc);
-        first.push(name)?;
+        let first = one_name(self.alloc, name)?;
         let (names, end) = self.steps(next, first)?;
         Ok(Found {
             tree: Boxed::new(self.alloc, Expr::NodePath(place, names))?,
@@ -396,7 +405,7 @@ impl<F: Fn(Global, &[Token], usize, usize, u8) -> Result<Found, SolveError>> Rul
         match kind_at(self.tokens, at) {
             Kind::Name(name) => self.named(at, name),
             Kind::Mark(mark) => self.marked(at, *mark),
-            _ => Err(refuse(self.tokens, at, Sought::Operand)),
+            Kind::Int(_) | Kind::Text(_) => Err(refuse(self.tokens, at, Sought::Operand)),
         }
     }
 

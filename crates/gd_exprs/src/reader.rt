@@ -1,5 +1,5 @@
 // Single tokens. A list of tokens ends in the file's end, and in no other.
-ghost use Rattle.std.specs.Prelude.{◌≡◌, ◌≢◌, ◌+◌, ◌<◌, ◌≤◌, true, false, max, length, Some, None, IfOk, OnErr};
+ghost use Rattle.std.specs.Prelude.{◌≡◌, ◌≢◌, ◌+◌, ◌<◌, ◌≤◌, true, false, max, length, Some, None, [], ◌∷◌, IfOk};
 ghost use Rattle.gd_syntax.specs.Reading.{Read, Answers};
 ghost use Rattle.gd_syntax.specs.TokenReading as spec;
 ghost use Rattle.gd_syntax.specs.TokenReading.{IsEnded};
@@ -8,6 +8,8 @@ use gd_syntax::{
     FaultKind, Form, Identifier, Kind, Literal, LoadFault, Mark, Name, PathText, Place, SolveError,
     Sought, Text, Token, refusal,
 };
+use std::alloc::{AllocError, Global};
+use tree_lists::Items;
 
 pub fn place_at(tokens: &[Token], at: usize) -> Place
     requires { at < length tokens.now }
@@ -194,6 +196,15 @@ pub fn plain_name(
     }
 }
 
+/// A list of one name.
+pub fn one_name(alloc: Global, name: Name) -> Result<Items<Name>, AllocError>
+    ensures { IfOk result (λ names. names ≡ name ∷ []) }
+{
+    let mut names = Items::new(alloc);
+    names.push(name)?;
+    Ok(names)
+}
+
 /// A name outside dots is due, and its place is kept.
 pub fn identifier(tokens: &[Token], at: usize) -> Result<(Identifier, usize), SolveError>
     requires within { at < length tokens.now }
@@ -219,9 +230,8 @@ fn marked_literal(mark: Mark) -> Option<Literal>
 }
 
 /// The value that is written as this one token.
-pub fn literal(kind: &Kind) -> Result<Option<Literal>, SolveError>
-    ensures value { IfOk result (λ value. value ≡ spec.literal_of kind.now) }
-    ensures memory { OnErr result (λ e. e ≡ SolveError.NoMemory) }
+pub fn literal(kind: &Kind) -> Result<Option<Literal>, AllocError>
+    ensures { IfOk result (λ value. value ≡ spec.literal_of kind.now) }
 {
     match kind {
         Kind::Int(value) => Ok(Some(Literal::Int(*value))),

@@ -4,7 +4,7 @@ ghost use Rattle.gd_syntax.specs.Reading.{Outcome, Read, Answers, Gives, Loop};
 ghost use Rattle.gd_syntax.specs.TokenReading.{IsEnded, mark_at};
 ghost use Rattle.gd_syntax.specs.TypeGrammar as spec;
 
-use crate::reader::{fault_at, mark_at, place_at, plain_name, sees, skip};
+use crate::reader::{fault_at, mark_at, one_name, place_at, plain_name, sees, skip};
 use gd_syntax::{FaultKind, Form, Mark, Name, SolveError, Sought, Token, TypeName};
 use std::alloc::Global;
 use tree_lists::Items;
@@ -74,8 +74,7 @@ pub fn type_name(
 {
     let place = place_at(tokens, at);
     let (name, next) = plain_name(tokens, at, sought)?;
-    let mut first = Items::new(alloc);
-    first.push(name)?;
+    let first = one_name(alloc, name)?;
     let (names, end) = dotted(tokens, next, first)?;
     match bracket_form(&names, mark_at(tokens, end)) {
         Some(form) => Err(fault_at(tokens, end, FaultKind::Unsupported(form))),

@@ -17,6 +17,7 @@ use tree_lists::Items;
 enum Work<'a> {
     Tree(&'a Expr),
     Word(&'a str),
+    Type(&'a TypeName),
 }
 
 fn op_text(op: TreeOp) -> &'static str {
@@ -208,17 +209,6 @@ fn postfix<'a>(
     }
 }
 
-fn type_word(kind: &TypeName) -> &str {
-    match kind {
-        TypeName::Named(_, names, _) => match names.as_slice() {
-            [name] => name.as_str(),
-            [_, name, ..] => name.as_str(),
-            [] => "",
-        },
-        TypeName::Void(_) => "void",
-    }
-}
-
 /// Prints the first words of a form, and gives the rest.
 fn form<'a>(
     alloc: Global,
@@ -226,9 +216,9 @@ fn form<'a>(
     tree: &'a Expr,
 ) -> Result<Vec<Work<'a>>, Fail> {
     match tree {
-        Expr::Is(_, a, kind) => Ok(vec![in alloc; Work::Word("("), Work::Tree(a.get()), Work::Word(" is "), Work::Word(type_word(kind)), Work::Word(")")]?),
-        Expr::IsNot(_, a, kind) => Ok(vec![in alloc; Work::Word("("), Work::Tree(a.get()), Work::Word(" is not "), Work::Word(type_word(kind)), Work::Word(")")]?),
-        Expr::As(_, a, kind) => Ok(vec![in alloc; Work::Word("("), Work::Tree(a.get()), Work::Word(" as "), Work::Word(type_word(kind)), Work::Word(")")]?),
+        Expr::Is(_, a, kind) => Ok(vec![in alloc; Work::Word("("), Work::Tree(a.get()), Work::Word(" is "), Work::Type(kind), Work::Word(")")]?),
+        Expr::IsNot(_, a, kind) => Ok(vec![in alloc; Work::Word("("), Work::Tree(a.get()), Work::Word(" is not "), Work::Type(kind), Work::Word(")")]?),
+        Expr::As(_, a, kind) => Ok(vec![in alloc; Work::Word("("), Work::Tree(a.get()), Work::Word(" as "), Work::Type(kind), Work::Word(")")]?),
         Expr::Prefix(_, op, a) => Ok(vec![in alloc; Work::Word(prefix_text(*op)), Work::Tree(a.get()), Work::Word(")")]?),
         Expr::Not(_, a) => Ok(vec![in alloc; Work::Word("(not "), Work::Tree(a.get()), Work::Word(")")]?),
         Expr::Binary(_, op, a, b) => Ok(vec![in alloc; Work::Word("("), Work::Tree(a.get()), Work::Word(op_text(*op)), Work::Tree(b.get()), Work::Word(")")]?),
@@ -248,6 +238,7 @@ fn tree_text(alloc: Global, tree: &Expr) -> Result<String, Fail> {
                 stack.append(&mut parts)?;
             }
             Some(Work::Word(word)) => out.push_str(word)?,
+            Some(Work::Type(kind)) => push_type(&mut out, kind)?,
             None => return Ok(out),
         }
     }
