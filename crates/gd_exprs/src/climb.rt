@@ -8,7 +8,7 @@ ghost use Rattle.gd_syntax.specs.Operators.{level_of, operator_of, is_not};
 ghost use Rattle.gd_exprs.specs.After.{after};
 
 use crate::found::Found;
-use crate::levels::{NOT, is_not, level_of, operator_of};
+use crate::levels::{NOT, PREFIX, is_not, level_of, operator_of};
 use crate::reader::{due, fits, fits_over, larger, mark_at, place_at, skip};
 use crate::rules::Rules;
 use gd_syntax::{Expr, Mark, Place, SolveError, Sought, Token, TreeOp};
@@ -132,6 +132,37 @@ impl<F: Fn(Global, &[Token], usize, usize, u8) -> Result<Found, SolveError>> Rul
         }
     }
 
+    /// A form of at most this level that begins with `not`.
+    fn level_from_not(&self, start: usize, least: u8) -> Result<Found, SolveError>
+        requires nests { Nests (self.now.room - 1) (F.pre self.now.inner) (F.post self.now.inner) }
+        requires within { start < length self.now.tokens.now }
+        requires ended { IsEnded self.now.tokens.now }
+        requires some { 1 ≤ self.now.room }
+        requires begins { is_not (mark_at self.now.tokens.now start) ≡ true }
+        requires loose { NOT ≤ least }
+        ensures reads { Answers found result (spec.level self.now.tokens.now self.now.room least start) }
+        ensures found { IfOk result (IsFound self.now.tokens.now self.now.room start) }
+    {
+        let place = place_at(self.tokens, start);
+        let left = self.negated(start)?;
+        self.climb(place, left, NOT, least)
+    }
+
+    /// A form of at most this level that begins with no `not` of its own.
+    fn level_from_prefix(&self, start: usize, least: u8) -> Result<Found, SolveError>
+        requires nests { Nests (self.now.room - 1) (F.pre self.now.inner) (F.post self.now.inner) }
+        requires within { start < length self.now.tokens.now }
+        requires ended { IsEnded self.now.tokens.now }
+        requires some { 1 ≤ self.now.room }
+        requires plain { NOT ≤ least → is_not (mark_at self.now.tokens.now start) ≡ false }
+        ensures reads { Answers found result (spec.level self.now.tokens.now self.now.room least start) }
+        ensures found { IfOk result (IsFound self.now.tokens.now self.now.room start) }
+    {
+        let place = place_at(self.tokens, start);
+        let left = self.prefix(start)?;
+        self.climb(place, left, PREFIX, least)
+    }
+
     /// A form of at most this level, from prefix operators to `or`.
     pub fn level(&self, start: usize, least: u8) -> Result<Found, SolveError>
         requires nests { Nests (self.now.room - 1) (F.pre self.now.inner) (F.post self.now.inner) }
@@ -141,13 +172,13 @@ impl<F: Fn(Global, &[Token], usize, usize, u8) -> Result<Found, SolveError>> Rul
         ensures reads { Answers found result (spec.level self.now.tokens.now self.now.room least start) }
         ensures found { IfOk result (IsFound self.now.tokens.now self.now.room start) }
     {
-        let place = place_at(self.tokens, start);
-        if least >= NOT && is_not(mark_at(self.tokens, start)) {
-            let left = self.negated(start)?;
-            self.climb(place, left, NOT, least)
+        if least < NOT {
+            return self.level_from_prefix(start, least);
+        }
+        if is_not(mark_at(self.tokens, start)) {
+            self.level_from_not(start, least)
         } else {
-            let left = self.prefix(start)?;
-            self.climb(place, left, 0, least)
+            self.level_from_prefix(start, least)
         }
     }
 }

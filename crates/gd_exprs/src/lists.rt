@@ -49,6 +49,7 @@ impl<F: Fn(Global, &[Token], usize, usize, u8) -> Result<Found, SolveError>> Rul
         requires goes_on { closing ≢ Mark.End }
         ensures reads { Answers found_list result (spec.args self.now.tokens.now self.now.room closing start) }
         ensures found { IfOk result (IsList self.now.tokens.now (self.now.room - 1) start) }
+        ensures closed { IfOk result (λ f. start < f.at) }
     {
         let FoundList { items, levels, at } = self.args_before(start, closing)?;
         let at = due(self.tokens, at, Sought::Other, closing)?;
@@ -117,6 +118,7 @@ impl<F: Fn(Global, &[Token], usize, usize, u8) -> Result<Found, SolveError>> Rul
         requires goes_on { closing ≢ Mark.End }
         ensures reads { Answers found_entries result (spec.entries self.now.tokens.now self.now.room closing start) }
         ensures found { IfOk result (IsEntries self.now.tokens.now (self.now.room - 1) start) }
+        ensures closed { IfOk result (λ f. start < f.at) }
     {
         let FoundEntries { items, levels, at } = self.entries_before(start, closing)?;
         let at = due(self.tokens, at, Sought::Other, closing)?;
@@ -203,6 +205,7 @@ impl<F: Fn(Global, &[Token], usize, usize, u8) -> Result<Found, SolveError>> Rul
         requires goes_on { closing ≢ Mark.End }
         ensures reads { Answers found_fields result (spec.fields self.now.tokens.now self.now.room closing start) }
         ensures found { IfOk result (IsFields self.now.tokens.now (self.now.room - 1) start) }
+        ensures closed { IfOk result (λ f. start < f.at) }
     {
         let FoundFields { items, levels, at } = self.fields_before(start, closing)?;
         let at = due(self.tokens, at, Sought::Other, closing)?;

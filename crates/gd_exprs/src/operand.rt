@@ -7,7 +7,7 @@ ghost use Rattle.gd_exprs.specs.Nests.{Nests, IsFound, IsPart, found, found_turn
 ghost use Rattle.gd_syntax.specs.Refusals.{is_load};
 ghost use Rattle.gd_syntax.specs.Reading.{Loop};
 ghost use Rattle.gd_syntax.specs.ExprGrammar as grammar;
-ghost use Rattle.gd_syntax.specs.Levels as tree;
+ghost use Rattle.gd_syntax.specs.Levels as depth;
 
 use crate::found::{Found, FoundEntries, FoundFields, FoundList};
 use crate::levels::AS;
@@ -47,7 +47,7 @@ impl<F: Fn(Global, &[Token], usize, usize, u8) -> Result<Found, SolveError>> Rul
         requires ended { IsEnded self.now.tokens.now }
         requires some { 1 ≤ self.now.room }
         requires goes_on { mark_at self.now.tokens.now at ≢ Some Mark.End }
-        requires leaf { tree.levels tree ≡ 1 }
+        requires leaf { depth.levels tree ≡ 1 }
         ensures reads { Answers found result (grammar.leaf self.now.tokens.now self.now.room (spec.inner self.now.tokens.now self.now.room) tree at) }
         ensures found { IfOk result (IsFound self.now.tokens.now self.now.room at) }
     {
@@ -405,7 +405,8 @@ impl<F: Fn(Global, &[Token], usize, usize, u8) -> Result<Found, SolveError>> Rul
         match kind_at(self.tokens, at) {
             Kind::Name(name) => self.named(at, name),
             Kind::Mark(mark) => self.marked(at, *mark),
-            Kind::Int(_) | Kind::Text(_) => Err(refuse(self.tokens, at, Sought::Operand)),
+            Kind::Int(_) => Err(refuse(self.tokens, at, Sought::Operand)),
+            Kind::Text(_) => Err(refuse(self.tokens, at, Sought::Operand)),
         }
     }
 

@@ -63,7 +63,10 @@ pub fn sees(tokens: &[Token], at: usize, wanted: Mark) -> bool
     ensures yes { result ≡ true → spec.mark_at tokens.now at ≡ Some wanted }
     ensures no { result ≡ false → spec.mark_at tokens.now at ≢ Some wanted }
 {
-    mark_at(tokens, at) == Some(wanted)
+    match mark_at(tokens, at) {
+        Some(mark) => mark == wanted,
+        None => false,
+    }
 }
 
 /// Past a token that is not the file's end.

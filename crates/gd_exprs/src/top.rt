@@ -4,6 +4,8 @@ ghost use Rattle.gd_syntax.specs.TokenReading.{IsEnded, kind_at, mark_at, place_
 ghost use Rattle.gd_syntax.specs.Reading.{Read, On, Answers};
 ghost use Rattle.gd_exprs.specs.Forms as spec;
 ghost use Rattle.gd_exprs.specs.Nests.{Nests, IsFound, IsPart, found, found_turn};
+ghost use Rattle.gd_syntax.specs.Operators as levels;
+ghost use Rattle.gd_syntax.specs.TokenReading.{max_levels};
 ghost use Rattle.gd_syntax.specs.Reading.{Outcome, Gives};
 ghost use Rattle.gd_syntax.specs.ExprGrammar as grammar;
 ghost use Rattle.gd_syntax.specs.declared.tree.expr.Expr.{Expr};
@@ -60,7 +62,7 @@ fn begins(level: u8, kind: &Kind) -> bool
 }
 
 /// The refusal where no form may begin any more.
-fn full(tokens: &[Token], at: usize, level: u8) -> SolveError
+pub fn full(tokens: &[Token], at: usize, level: u8) -> SolveError
     requires within { at < length tokens.now }
     requires ended { IsEnded tokens.now }
     ensures { Answers found (Err result) (grammar.full tokens.now level at) }
@@ -203,12 +205,12 @@ pub fn expression(
 ) -> Result<(Expr, usize), SolveError>
     requires within { at < length tokens.now }
     requires ended { IsEnded tokens.now }
-    requires open_forms { depth ≤ MAX_LEVELS }
+    requires open_forms { depth ≤ max_levels }
 
     // What is answered is the outcome of the reading, unless memory runs out, and so is a refusal.
-    ensures reads { Answers (λ found. Read found.0 found.1) result (grammar.expression tokens.now (MAX_LEVELS - depth) AS at) }
+    ensures reads { Answers (λ found. Read found.0 found.1) result (grammar.expression tokens.now (max_levels - depth) levels.AS at) }
     // Nothing else is.
-    ensures only { (o : Outcome Expr) → grammar.expression tokens.now (MAX_LEVELS - depth) AS at o → Gives (λ found. Read found.0 found.1) result o }
+    ensures only { (o : Outcome Expr) → grammar.expression tokens.now (max_levels - depth) levels.AS at o → Gives (λ found. Read found.0 found.1) result o }
     ensures within { IfOk result (λ found. found.1 < length tokens.now) }
     ensures after { IfOk result (λ found. at < found.1) }
 {

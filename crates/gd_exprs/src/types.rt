@@ -3,6 +3,7 @@ ghost use Rattle.std.specs.Prelude.{◌≡◌, ◌≢◌, ◌+◌, ◌<◌, ◌�
 ghost use Rattle.gd_syntax.specs.Reading.{Outcome, Read, Answers, Gives, Loop};
 ghost use Rattle.gd_syntax.specs.TokenReading.{IsEnded, mark_at};
 ghost use Rattle.gd_syntax.specs.TypeGrammar as spec;
+ghost use Rattle.gd_syntax.specs.declared.tree.type_name.TypeName.{TypeName};
 
 use crate::reader::{fault_at, mark_at, one_name, place_at, plain_name, sees, skip};
 use gd_syntax::{FaultKind, Form, Mark, Name, SolveError, Sought, Token, TypeName};
@@ -58,6 +59,28 @@ fn bracket_form(names: &Items<Name>, mark: Option<Mark>) -> Option<Form>
     }
 }
 
+fn read_type(
+    alloc: Global,
+    tokens: &[Token],
+    at: usize,
+    sought: Sought,
+) -> Result<(TypeName, usize), SolveError>
+    requires within { at < length tokens.now }
+    requires ended { IsEnded tokens.now }
+    ensures reads { Answers (λ found. Read found.0 found.1) result (spec.type_name tokens.now sought at) }
+    ensures within { IfOk result (λ found. found.1 < length tokens.now) }
+    ensures after { IfOk result (λ found. at < found.1) }
+{
+    let place = place_at(tokens, at);
+    let (name, next) = plain_name(tokens, at, sought)?;
+    let first = one_name(alloc, name)?;
+    let (names, end) = dotted(tokens, next, first)?;
+    match bracket_form(&names, mark_at(tokens, end)) {
+        Some(form) => Err(fault_at(tokens, end, FaultKind::Unsupported(form))),
+        None => Ok((TypeName::Named(place, names, None), end)),
+    }
+}
+
 /// A type from `at`, and the place after it.
 pub fn type_name(
     alloc: Global,
@@ -72,14 +95,25 @@ pub fn type_name(
     ensures within { IfOk result (λ found. found.1 < length tokens.now) }
     ensures after { IfOk result (λ found. at < found.1) }
 {
-    let place = place_at(tokens, at);
-    let (name, next) = plain_name(tokens, at, sought)?;
-    let first = one_name(alloc, name)?;
-    let (names, end) = dotted(tokens, next, first)?;
-    match bracket_form(&names, mark_at(tokens, end)) {
-        Some(form) => Err(fault_at(tokens, end, FaultKind::Unsupported(form))),
-        None => Ok((TypeName::Named(place, names, None), end)),
+    read_type(alloc, tokens, at, sought)
+}
+
+fn read_result(
+    alloc: Global,
+    tokens: &[Token],
+    at: usize,
+) -> Result<(TypeName, usize), SolveError>
+    requires within { at < length tokens.now }
+    requires ended { IsEnded tokens.now }
+    ensures reads { Answers (λ found. Read found.0 found.1) result (spec.result_type tokens.now at) }
+    ensures within { IfOk result (λ found. found.1 < length tokens.now) }
+    ensures after { IfOk result (λ found. at < found.1) }
+{
+    if !sees(tokens, at, Mark::Void) {
+        return read_type(alloc, tokens, at, Sought::Other);
     }
+    let place = place_at(tokens, at);
+    Ok((TypeName::Void(place), skip(tokens, at)))
 }
 
 /// The type of a result from `at`, which may be `void`, and the place after it.
@@ -95,8 +129,5 @@ pub fn result_type(
     ensures within { IfOk result (λ found. found.1 < length tokens.now) }
     ensures after { IfOk result (λ found. at < found.1) }
 {
-    if !sees(tokens, at, Mark::Void) {
-        return type_name(alloc, tokens, at, Sought::Other);
-    }
-    Ok((TypeName::Void(place_at(tokens, at)), skip(tokens, at)))
+    read_result(alloc, tokens, at)
 }
