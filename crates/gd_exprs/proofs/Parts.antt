@@ -20,7 +20,7 @@ use Rattle.gd_syntax.specs.declared.fault.Form.TheVariants.{UidPath}
 use Rattle.gd_syntax.specs.declared.stops.Sought.{Sought}
 use Rattle.gd_syntax.specs.declared.stops.Sought.TheVariants.{Operand}
 use Rattle.gd_syntax.specs.Refusals.{is_load}
-use Rattle.gd_syntax.specs.TokenReading.{is_plain, is_uid, path_text_by, fault_at, plain_name, fits, refuse, kind_at, kind_of, mark_of, IsEnded}
+use Rattle.gd_syntax.specs.TokenReading.{is_plain, is_uid, path_text_by, fault_at, any_name, plain_name, fits, refuse, kind_at, kind_of, mark_of, IsEnded}
 use Rattle.gd_syntax.specs.ExprGrammar.{leaf, load, named, level, ternary, cast, form, deeper, expression}
 use Rattle.gd_syntax.proofs.ExprSteps.{form_is, expression_is}
 use Rattle.std.proofs.lemmas.Bool.Decides.{eqb_tells}
@@ -108,3 +108,9 @@ expression_of tokens (suc room) n at o some h =
     let e : suc room - 1 ≡ room = omega arith in
     let P : ℕ → Type 0 = λ k. form tokens (suc room) (deeper tokens k) n at o in
     expression_is tokens room n at o (subst P e h)
+
+pub any_other : (k : Kind) → ((text : List ℕ) → k ≢ Name text) → any_name k ≡ None
+any_other (Name text) n = absurd (n text refl)
+any_other (Marked a) n = refl
+any_other (Int a) n = refl
+any_other (Text a) n = refl
