@@ -37,13 +37,7 @@ impl<F: Fn(Global, &[Token], usize, usize, u8) -> Result<Found, SolveError>> Rul
     }
 
     /// An operator of one token, of this level, and its right operand.
-    fn binary(
-        &self,
-        place: Place,
-        left: Found,
-        op: TreeOp,
-        level: u8,
-    ) -> Result<Found, SolveError>
+    fn binary(&self, place: Place, left: Found, op: TreeOp, level: u8) -> Result<Found, SolveError>
         requires nests { Nests (self.now.room - 1) (F.pre self.now.inner) (F.post self.now.inner) }
         requires ended { IsEnded self.now.tokens.now }
         requires some { 1 ≤ self.now.room }

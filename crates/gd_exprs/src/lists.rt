@@ -28,7 +28,11 @@ impl<F: Fn(Global, &[Token], usize, usize, u8) -> Result<Found, SolveError>> Rul
         let mut levels = 0;
         let mut at = start;
         'items: while !sees(self.tokens, at, closing) {
-            let Found { tree, levels: deep, at: next } = self.inner(at, 0, AS)?;
+            let Found {
+                tree,
+                levels: deep,
+                at: next,
+            } = self.inner(at, 0, AS)?;
             items.push(tree.into_inner())?;
             levels = larger(levels, deep);
             at = next;
@@ -97,7 +101,12 @@ impl<F: Fn(Global, &[Token], usize, usize, u8) -> Result<Found, SolveError>> Rul
         let mut levels = 0;
         let mut at = start;
         'items: while !sees(self.tokens, at, closing) {
-            let FoundEntry { key, value, levels: deep, at: next } = self.entry(at)?;
+            let FoundEntry {
+                key,
+                value,
+                levels: deep,
+                at: next,
+            } = self.entry(at)?;
             items.push((key.into_inner(), value.into_inner()))?;
             levels = larger(levels, deep);
             at = next;
@@ -184,7 +193,12 @@ impl<F: Fn(Global, &[Token], usize, usize, u8) -> Result<Found, SolveError>> Rul
         let mut levels = 0;
         let mut at = start;
         'items: while !sees(self.tokens, at, closing) {
-            let FoundField { key, value, levels: deep, at: next } = self.field(at)?;
+            let FoundField {
+                key,
+                value,
+                levels: deep,
+                at: next,
+            } = self.field(at)?;
             items.push((key, value.into_inner()))?;
             levels = larger(levels, deep);
             at = next;

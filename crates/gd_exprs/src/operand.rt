@@ -172,7 +172,12 @@ impl<F: Fn(Global, &[Token], usize, usize, u8) -> Result<Found, SolveError>> Rul
         ensures found { IfOk result (IsFound self.now.tokens.now self.now.room at) }
     {
         let place = place_at(self.tokens, at);
-        let start = due(self.tokens, skip(self.tokens, at), Sought::Other, Mark::LParen)?;
+        let start = due(
+            self.tokens,
+            skip(self.tokens, at),
+            Sought::Other,
+            Mark::LParen,
+        )?;
         let (path, next) = path_text(self.tokens, start, Sought::Other)?;
         let end = due(self.tokens, next, Sought::Other, Mark::RParen)?;
         Ok(Found {
@@ -194,7 +199,12 @@ impl<F: Fn(Global, &[Token], usize, usize, u8) -> Result<Found, SolveError>> Rul
         ensures found { IfOk result (IsFound self.now.tokens.now self.now.room at) }
     {
         let place = place_at(self.tokens, at);
-        let start = due(self.tokens, skip(self.tokens, at), Sought::Other, Mark::LParen)?;
+        let start = due(
+            self.tokens,
+            skip(self.tokens, at),
+            Sought::Other,
+            Mark::LParen,
+        )?;
         let (path, next) = path_text(self.tokens, start, Sought::LoadPath)?;
         let end = due(self.tokens, next, Sought::LoadPath, Mark::RParen)?;
         Ok(Found {

@@ -9,8 +9,7 @@ ghost use Rattle.gd_syntax.specs.Operators.{prefix_of};
 ghost use Rattle.gd_syntax.specs.Levels as tree;
 
 use crate::found::{Found, FoundList};
-use crate::levels::{PREFIX, prefix_of};
-use crate::levels::AS;
+use crate::levels::{AS, PREFIX, prefix_of};
 use crate::reader::{any_name, due, fits, fits_over, larger, mark_at, place_at, sees, skip};
 use crate::rules::Rules;
 use crate::types::type_name;
@@ -138,7 +137,12 @@ impl<F: Fn(Global, &[Token], usize, usize, u8) -> Result<Found, SolveError>> Rul
         ensures found { IfOk result (IsFound self.now.tokens.now self.now.room at) }
     {
         let Found { tree, levels, .. } = left;
-        let (kind, end) = type_name(self.alloc, self.tokens, skip(self.tokens, at), Sought::Other)?;
+        let (kind, end) = type_name(
+            self.alloc,
+            self.tokens,
+            skip(self.tokens, at),
+            Sought::Other,
+        )?;
         Ok(Found {
             tree: Boxed::new(self.alloc, Expr::IsNot(place, tree, kind))?,
             levels: levels + 1,

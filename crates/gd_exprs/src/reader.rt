@@ -134,12 +134,7 @@ pub fn fits_over(
 }
 
 /// This very token is due, which is not the file's end.
-pub fn due(
-    tokens: &[Token],
-    at: usize,
-    sought: Sought,
-    wanted: Mark,
-) -> Result<usize, SolveError>
+pub fn due(tokens: &[Token], at: usize, sought: Sought, wanted: Mark) -> Result<usize, SolveError>
     requires within { at < length tokens.now }
     requires ended { IsEnded tokens.now }
     requires goes_on { wanted ≢ Mark.End }
@@ -155,11 +150,7 @@ pub fn due(
 }
 
 /// Any name is due, as it may be declared or stand after a dot.
-pub fn any_name(
-    tokens: &[Token],
-    at: usize,
-    sought: Sought,
-) -> Result<(Name, usize), SolveError>
+pub fn any_name(tokens: &[Token], at: usize, sought: Sought) -> Result<(Name, usize), SolveError>
     requires within { at < length tokens.now }
     requires ended { IsEnded tokens.now }
     ensures reads { Answers (λ found. Read found.0 found.1) result (spec.OneOf tokens.now spec.any_name sought at) }
@@ -176,11 +167,7 @@ pub fn any_name(
 }
 
 /// A name outside dots is due.
-pub fn plain_name(
-    tokens: &[Token],
-    at: usize,
-    sought: Sought,
-) -> Result<(Name, usize), SolveError>
+pub fn plain_name(tokens: &[Token], at: usize, sought: Sought) -> Result<(Name, usize), SolveError>
     requires within { at < length tokens.now }
     requires ended { IsEnded tokens.now }
     ensures reads { Answers (λ found. Read found.0 found.1) result (spec.OneOf tokens.now spec.plain_name sought at) }

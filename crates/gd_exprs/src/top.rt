@@ -12,9 +12,7 @@ ghost use Rattle.gd_syntax.specs.declared.tree.expr.Expr.{Expr};
 
 use crate::found::Found;
 use crate::levels::{AS, NOT, OR, TERNARY};
-use crate::reader::{
-    due, fault_at, fits_over, kind_at, larger, place_at, refuse, sees, skip,
-};
+use crate::reader::{due, fault_at, fits_over, kind_at, larger, place_at, refuse, sees, skip};
 use crate::rules::Rules;
 use crate::types::type_name;
 use gd_syntax::{Expr, FaultKind, Kind, Mark, Place, SolveError, Sought, Token};
@@ -124,7 +122,12 @@ impl<F: Fn(Global, &[Token], usize, usize, u8) -> Result<Found, SolveError>> Rul
     {
         let Found { tree, levels, at } = left;
         fits_over(self.tokens, at, self.room, levels, 1)?;
-        let (kind, end) = type_name(self.alloc, self.tokens, skip(self.tokens, at), Sought::Other)?;
+        let (kind, end) = type_name(
+            self.alloc,
+            self.tokens,
+            skip(self.tokens, at),
+            Sought::Other,
+        )?;
         Ok(Found {
             tree: Boxed::new(self.alloc, Expr::As(place, tree, kind))?,
             levels: levels + 1,

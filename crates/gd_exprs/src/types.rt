@@ -98,11 +98,7 @@ pub fn type_name(
     read_type(alloc, tokens, at, sought)
 }
 
-fn read_result(
-    alloc: Global,
-    tokens: &[Token],
-    at: usize,
-) -> Result<(TypeName, usize), SolveError>
+fn read_result(alloc: Global, tokens: &[Token], at: usize) -> Result<(TypeName, usize), SolveError>
     requires within { at < length tokens.now }
     requires ended { IsEnded tokens.now }
     ensures reads { Answers (λ found. Read found.0 found.1) result (spec.result_type tokens.now at) }

@@ -1,6 +1,5 @@
 // Long and deep expressions.
-use crate::tests::printer::read_at;
-use gd_syntax::{Expr, SolveError};
+use crate::tests::printer::shown;
 use std::alloc::Global;
 use std::process::Abort;
 use std::test::Fail;
@@ -14,21 +13,6 @@ fn times(alloc: Global, text: &str, n: u32) -> Result<String, Fail> {
     Ok(all)
 }
 
-/// The number of items of the array or the call that was read, or the fault and its place.
-fn outcome(alloc: Global, text: &str) -> Result<String, Fail> {
-    match read_at(alloc, text.as_bytes(), 0)? {
-        Ok((Expr::Array(_, items), _, _)) => Ok(format!(in alloc; "{}", items.len())?),
-        Ok((Expr::Call(_, _, items), _, _)) => Ok(format!(in alloc; "{}", items.len())?),
-        Ok((Expr::Dict(_, items), _, _)) => Ok(format!(in alloc; "{}", items.len())?),
-        Ok(_) => Ok(String::from_str(alloc, "read")?),
-        Err(SolveError::Fault(fault)) => {
-            let place = fault.place;
-            Ok(format!(in alloc; "{} {}:{}", fault.kind.as_str(), place.line, place.column)?)
-        }
-        Err(SolveError::NoMemory) => Ok(String::from_str(alloc, "NoMemory")?),
-    }
-}
-
 fn check(
     rt: &(impl Abort + AllocGlobal),
     cases: &[(&str, u32, &str, u32, &str, &str)],
@@ -37,7 +21,7 @@ fn check(
         let mut text = times(rt.alloc(), before, *n)?;
         text.push_str(middle)?;
         text.push_str(times(rt.alloc(), after, *m)?.as_str())?;
-        let answer = outcome(rt.alloc(), text.as_str())?;
+        let answer = shown(rt.alloc(), text.as_bytes(), 0, false)?;
         assert_eq!(rt; answer.as_str(), *wanted);
     }
     Ok(())
@@ -48,22 +32,22 @@ fn deep(rt: HostRuntime) -> Result<(), Fail> {
     check(
         &rt,
         &[
-            ("a + ", 127, "a", 0, "", "read"),
+            ("a + ", 127, "a", 0, "", "0"),
             ("a + ", 128, "a", 0, "", "NestTooDeep 1:511"),
-            ("a or ", 127, "a", 0, "", "read"),
+            ("a or ", 127, "a", 0, "", "0"),
             ("[", 128, "", 128, "]", "1"),
             ("[", 129, "", 129, "]", "NestTooDeep 1:129"),
-            ("(", 127, "a", 127, ")", "read"),
+            ("(", 127, "a", 127, ")", "0"),
             ("(", 128, "a", 128, ")", "NestTooDeep 1:128"),
             ("{1:", 127, "{}", 127, "}", "1"),
             ("{1:", 128, "{}", 128, "}", "NestTooDeep 1:383"),
-            ("-", 127, "a", 0, "", "read"),
+            ("-", 127, "a", 0, "", "0"),
             ("-", 128, "a", 0, "", "NestTooDeep 1:128"),
-            ("not ", 127, "a", 0, "", "read"),
+            ("not ", 127, "a", 0, "", "0"),
             ("not ", 128, "a", 0, "", "NestTooDeep 1:509"),
-            ("", 0, "a", 127, ".b", "read"),
+            ("", 0, "a", 127, ".b", "0"),
             ("", 0, "a", 128, ".b", "NestTooDeep 1:256"),
-            ("a if b else ", 127, "a", 0, "", "read"),
+            ("a if b else ", 127, "a", 0, "", "0"),
             ("a if b else ", 128, "a", 0, "", "NestTooDeep 1:1527"),
         ],
     )
@@ -80,7 +64,7 @@ fn long_list(
     let mut text = String::from_str(rt.alloc(), opening)?;
     text.push_str(times(rt.alloc(), item, n)?.as_str())?;
     text.push_str(closing)?;
-    let answer = outcome(rt.alloc(), text.as_str())?;
+    let answer = shown(rt.alloc(), text.as_bytes(), 0, false)?;
     let wanted = format!(in rt.alloc(); "{n}")?;
     assert_eq!(rt; answer.as_str(), wanted.as_str());
     Ok(())

@@ -6,7 +6,7 @@ use std::test::Fail;
 
 fn check(rt: &(impl Abort + AllocGlobal), cases: &[(&[u8], &str)]) -> Result<(), Fail> {
     for (text, wanted) in cases {
-        let answer = shown(rt.alloc(), text, 0)?;
+        let answer = shown(rt.alloc(), text, 0, true)?;
         assert_eq!(rt; answer.as_str(), *wanted);
     }
     Ok(())
@@ -95,7 +95,10 @@ fn type_tests(rt: HostRuntime) -> Result<(), Fail> {
             (b"a is int + b", "((a is int) + b)"),
             (b"not a is int", "(not (a is int))"),
             (b"a is Array", "(a is Array)"),
-            (b"a is int and b is not bool", "((a is int) and (b is not bool))"),
+            (
+                b"a is int and b is not bool",
+                "((a is int) and (b is not bool))",
+            ),
         ],
     )
 }
@@ -177,8 +180,14 @@ fn binary_operators(rt: HostRuntime) -> Result<(), Fail> {
             (b"a or b or c", "((a or b) or c)"),
             (b"a in b and c", "((a in b) and c)"),
             (b"a and b == c", "(a and (b == c))"),
-            (b"a + b << c & d ^ e | f == g in h and i or j", "(((((((((a + b) << c) & d) ^ e) | f) == g) in h) and i) or j)"),
-            (b"a or b and c in d == e | f ^ g & h << i + j * k", "(a or (b and (c in (d == (e | (f ^ (g & (h << (i + (j * k))))))))))"),
+            (
+                b"a + b << c & d ^ e | f == g in h and i or j",
+                "(((((((((a + b) << c) & d) ^ e) | f) == g) in h) and i) or j)",
+            ),
+            (
+                b"a or b and c in d == e | f ^ g & h << i + j * k",
+                "(a or (b and (c in (d == (e | (f ^ (g & (h << (i + (j * k))))))))))",
+            ),
         ],
     )
 }
@@ -189,9 +198,18 @@ fn ternaries_and_casts(rt: HostRuntime) -> Result<(), Fail> {
         &rt,
         &[
             (b"a if b else c", "(a if b else c)"),
-            (b"a if b else c if d else e", "(a if b else (c if d else e))"),
-            (b"a or b if c or d else e or f", "((a or b) if (c or d) else (e or f))"),
-            (b"(a if b else c) if d else e", "(<(a if b else c)> if d else e)"),
+            (
+                b"a if b else c if d else e",
+                "(a if b else (c if d else e))",
+            ),
+            (
+                b"a or b if c or d else e or f",
+                "((a or b) if (c or d) else (e or f))",
+            ),
+            (
+                b"(a if b else c) if d else e",
+                "(<(a if b else c)> if d else e)",
+            ),
             (b"not a if b else c", "((not a) if b else c)"),
             (b"a as int", "(a as int)"),
             (b"a as int as bool", "((a as int) as bool)"),
@@ -302,7 +320,10 @@ fn stops_in_postfix_forms(rt: HostRuntime) -> Result<(), Fail> {
             (b"a is float", "Unsupported(float) 1:6"),
             (b"a is A.PI", "Unsupported(float) 1:8"),
             (b"a is Array[int]", "Unsupported(typed array) 1:11"),
-            (b"a as Dictionary[int, int]", "Unsupported(typed dictionary) 1:16"),
+            (
+                b"a as Dictionary[int, int]",
+                "Unsupported(typed dictionary) 1:16",
+            ),
             (b"a as", "Syntax 1:5"),
             (b"a as float", "Unsupported(float) 1:6"),
             (b"a as load", "Syntax 1:6"),
@@ -386,7 +407,7 @@ fn stops_of_forms_that_are_not_taken(rt: HostRuntime) -> Result<(), Fail> {
 /// With so many forms open round the expression.
 fn check_deep(rt: &(impl Abort + AllocGlobal), cases: &[(u32, &[u8], &str)]) -> Result<(), Fail> {
     for (depth, text, wanted) in cases {
-        let answer = shown(rt.alloc(), text, *depth)?;
+        let answer = shown(rt.alloc(), text, *depth, true)?;
         assert_eq!(rt; answer.as_str(), *wanted);
     }
     Ok(())
@@ -448,7 +469,11 @@ fn at_the_limit(rt: HostRuntime) -> Result<(), Fail> {
             (125, b"a not in b", "(not (a in b))"),
             (125, b"a not in -b", "NestTooDeep 1:10"),
             (125, b"a + b not in c", "NestTooDeep 1:7"),
-            (125, b"a if b else c if d else e", "(a if b else (c if d else e))"),
+            (
+                125,
+                b"a if b else c if d else e",
+                "(a if b else (c if d else e))",
+            ),
         ],
     )
 }
