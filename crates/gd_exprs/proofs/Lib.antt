@@ -1,0 +1,3 @@
+pub mod Ladder
+pub mod Parts
+pub mod Fronts

@@ -1,0 +1,12 @@
+use Rattle.gd_exprs.proofs.Ladder.{level_after, level_stops}
+use Rattle.gd_exprs.specs.Forms.{inner}
+use Rattle.gd_syntax.proofs.ExprSteps.{level_zero}
+use Rattle.gd_syntax.proofs.Steps.{answers_by, exit}
+use Rattle.std.proofs.Common.{arith}
+use Rattle.gd_exprs.proofs.rules.Rules.level_from_prefix.Goals as goal
+
+pub returns-in_err-left-clause-reads : goal.returns-in_err-left-clause-reads
+returns-in_err-left-clause-reads g c = exit _ _ _ _ _ c.from_residual.ensures.1 (λ f h. level_stops c.args.self.now.tokens.now c.args.self.now.room (inner c.args.self.now.tokens.now c.args.self.now.room) c.args.start c.args.least f c.requires.plain h) c.in_err-left.ensures.reads
+
+pub returns-clause-reads : goal.returns-clause-reads
+returns-clause-reads g c = let all = level_after c.args.self.now.tokens.now c.args.self.now.room (inner c.args.self.now.tokens.now c.args.self.now.room) c.args.start 0 c.args.least c.in_ok-left.left.tree c.in_ok-left.left.at in let h = rw (c.place_at-place.ensures) at c.climb.ensures.reads in answers_by _ _ _ _ c.climb.result (λ x a. all _ (λ eight. c.requires.plain) (omega arith) (level_zero c.args.self.now.tokens.now c.args.self.now.room (inner c.args.self.now.tokens.now c.args.self.now.room) c.args.start _ c.in_ok-left.ensures.reads) a) (λ x a. all _ (λ eight. c.requires.plain) (omega arith) (level_zero c.args.self.now.tokens.now c.args.self.now.room (inner c.args.self.now.tokens.now c.args.self.now.room) c.args.start _ c.in_ok-left.ensures.reads) a) h

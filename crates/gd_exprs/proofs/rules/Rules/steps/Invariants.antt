@@ -1,0 +1,11 @@
+use Rattle.gd_syntax.specs.Reading.{Outcome}
+use Rattle.std.proofs.Common.{List, length, ℕ, ◌-◌, ◌<◌, ◌≤◌}
+use Rattle.gd_exprs.specs.Forms.{step}
+use Rattle.gd_syntax.specs.Reading.{Loop}
+use Rattle.gd_exprs.proofs.rules.Rules.steps.Given as goal
+
+abbrev pub invariant-names : goal.invariant-names
+invariant-names g l = record { reads : (o : Outcome (List (List ℕ))) → Loop (step l.self.tokens.now l.self.room) l.names l.at o → Loop (step l.self.tokens.now l.self.room) l.initial.names l.start o; after : l.start ≤ l.at; within : l.at < length l.self.tokens.now }
+
+abbrev pub decreases-names : goal.decreases-names
+decreases-names g l = length l.self.tokens.now - l.at

@@ -1,0 +1,5 @@
+// Expressions from texts, against the level table and the rules of the language.
+
+mod printer;
+mod sizes;
+mod table;
