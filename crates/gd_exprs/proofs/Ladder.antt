@@ -1,5 +1,5 @@
 -- A climb over the levels reads what the levels say.
-use Rattle.std.proofs.Common.{◌≡◌, ◌≢◌, ◌⊎◌, inl, inr, ℕ, zero, suc, ◌+◌, ◌-◌, ◌≤◌, ◌<◌, Bool, true, false, List, Option, Some, None, nat_le, ◌==◌, refl, sym, ap, ◌∙◌, subst, arith, rules}
+use Rattle.std.proofs.Common.{◌≡◌, ◌≢◌, ◌⊎◌, inl, inr, ℕ, zero, suc, ◌-◌, ◌≤◌, ◌<◌, false, List, Option, Some, None, refl, sym, subst, arith}
 use Rattle.std.proofs.lemmas.Bool.Decides.{leb_tells, eqb_tells}
 use Rattle.gd_syntax.specs.declared.tree.expr.Expr.{Expr}
 use Rattle.gd_syntax.specs.declared.fault.Place.{Place}
@@ -11,7 +11,7 @@ use Rattle.gd_syntax.specs.TokenReading.{mark_at, place_at}
 use Rattle.gd_syntax.specs.Operators.{level_of, operator_of, is_not}
 use Rattle.gd_syntax.specs.ExprGrammar.{level, prefix, BinaryTurn}
 use Rattle.gd_syntax.proofs.ExprSteps.{level_zero, level_suc}
-use Rattle.gd_syntax.specs.Reading.{Outcome, Read, Stops, Reading, Then, goes, halts, looks, On, Last, Loop}
+use Rattle.gd_syntax.specs.Reading.{Outcome, Read, Stops, Reading, Then, goes, halts, looks, On, Loop}
 use Rattle.gd_exprs.specs.After.{after}
 
 pub not_word : (k : Option Mark) → operator_of k ≡ None → level_of k ≢ 0 → k ≡ Some m.Not

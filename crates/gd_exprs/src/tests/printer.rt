@@ -90,61 +90,55 @@ fn later<'a>(stack: &mut Vec<Work<'a>>, parts: &[Work<'a>]) -> Result<(), Fail> 
     Ok(())
 }
 
+/// A comma, but not behind the last item, which comes first here.
+fn later_comma<'a>(stack: &mut Vec<Work<'a>>, first: bool) -> Result<(), Fail> {
+    if first {
+        return Ok(());
+    }
+    later(stack, &[Work::Word(", ")])
+}
+
 fn later_list<'a>(
     stack: &mut Vec<Work<'a>>,
     opening: &'a str,
     items: &'a [Expr],
     closing: &'a str,
 ) -> Result<(), Fail> {
-    let mut behind = closing;
+    later(stack, &[Work::Word(closing)])?;
+    let mut first = true;
     for item in items.iter().rev() {
-        later(stack, &[Work::Tree(item), Work::Word(behind)])?;
-        behind = ", ";
+        later_comma(stack, first)?;
+        later(stack, &[Work::Tree(item)])?;
+        first = false;
     }
-    if items.is_empty() {
-        later(stack, &[Work::Word(opening), Work::Word(closing)])
-    } else {
-        later(stack, &[Work::Word(opening)])
-    }
+    later(stack, &[Work::Word(opening)])
 }
 
 fn later_entries<'a>(stack: &mut Vec<Work<'a>>, items: &'a [(Expr, Expr)]) -> Result<(), Fail> {
-    let mut behind = "}";
+    later(stack, &[Work::Word("}")])?;
+    let mut first = true;
     for item in items.iter().rev() {
+        later_comma(stack, first)?;
         later(
             stack,
-            &[
-                Work::Tree(&item.0),
-                Work::Word(": "),
-                Work::Tree(&item.1),
-                Work::Word(behind),
-            ],
+            &[Work::Tree(&item.0), Work::Word(": "), Work::Tree(&item.1)],
         )?;
-        behind = ", ";
+        first = false;
     }
-    later(
-        stack,
-        &[Work::Word(if items.is_empty() { "{}" } else { "{" })],
-    )
+    later(stack, &[Work::Word("{")])
 }
 
 fn later_fields<'a>(
     stack: &mut Vec<Work<'a>>,
     items: &'a [(Identifier, Expr)],
 ) -> Result<(), Fail> {
-    let mut behind = "}";
+    later(stack, &[Work::Word("}")])?;
+    let mut first = true;
     for item in items.iter().rev() {
-        let name = item.0.name.as_str();
-        later(
-            stack,
-            &[
-                Work::Word(name),
-                Work::Word(" = "),
-                Work::Tree(&item.1),
-                Work::Word(behind),
-            ],
-        )?;
-        behind = ", ";
+        later_comma(stack, first)?;
+        later(stack, &[Work::Word(" = "), Work::Tree(&item.1)])?;
+        later(stack, &[Work::Word(item.0.name.as_str())])?;
+        first = false;
     }
     later(stack, &[Work::Word("{")])
 }

@@ -6,7 +6,6 @@ use Rattle.gd_syntax.specs.Reading.Then.{goes, halts}
 use Rattle.gd_syntax.specs.TokenReading.Item.{closed, further}
 use Rattle.std.proofs.Common.{List, ap, arith, map, refl, subst, ◌+◌}
 use Rattle.gd_syntax.specs.declared.tree.expr.Expr.{Expr}
-use Rattle.gd_syntax.specs.declared.tree.type_name.Identifier.{Identifier}
 use Rattle.gd_syntax.specs.Reading.{Loop}
 use Rattle.gd_exprs.specs.Forms.{args_before}
 use Rattle.gd_exprs.proofs.rules.Rules.args_before.Goals as goal

@@ -2,7 +2,6 @@ use Rattle.gd_syntax.specs.Levels.{levels}
 use Rattle.gd_syntax.specs.Reading.{Outcome}
 use Rattle.std.proofs.Common.{List, [], length, map, ◌-◌, ◌<◌, ◌≡◌, ◌≤◌}
 use Rattle.gd_syntax.specs.declared.tree.expr.Expr.{Expr}
-use Rattle.gd_syntax.specs.declared.tree.type_name.Identifier.{Identifier}
 use Rattle.gd_exprs.specs.Forms.{args_before}
 use Rattle.gd_syntax.specs.Levels as tree
 use Rattle.gd_exprs.proofs.rules.Rules.args_before.Given as goal

@@ -1,7 +1,6 @@
 use Rattle.gd_exprs.proofs.Ladder.{after_ends, after_stops, after_turn}
 use Rattle.gd_exprs.specs.Forms.{inner}
 use Rattle.gd_syntax.proofs.Steps.{exit}
-use Rattle.gd_syntax.specs.Levels.{levels}
 use Rattle.gd_syntax.specs.Operators.{level_of}
 use Rattle.gd_syntax.specs.TokenReading.{mark_at}
 use Rattle.std.proofs.Common.{ap, arith, inl, inr, sym, ◌<◌, ◌∙◌, ◌≡◌, ◌≤◌, ◌⊎◌}

@@ -6,7 +6,7 @@ use Rattle.gd_syntax.specs.Levels.{levels}
 use Rattle.gd_syntax.specs.Reading.{Read}
 use Rattle.gd_syntax.specs.Reading.Look.{looks}
 use Rattle.gd_syntax.specs.Reading.Then.{goes, halts}
-use Rattle.std.proofs.Common.{ap, arith, suc, ◌≤◌}
+use Rattle.std.proofs.Common.{ap, arith, ◌≤◌}
 use Rattle.gd_exprs.proofs.rules.Rules.negated.Goals as goal
 
 pub returns-in_err-fits-clause-reads : goal.returns-in_err-fits-clause-reads

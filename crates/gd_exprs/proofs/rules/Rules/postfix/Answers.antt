@@ -2,7 +2,6 @@ use Rattle.gd_exprs.specs.Forms.{inner}
 use Rattle.gd_syntax.proofs.ExprSteps.{part_none}
 use Rattle.gd_syntax.proofs.Steps.{exit}
 use Rattle.gd_syntax.specs.ExprGrammar.{is_part}
-use Rattle.gd_syntax.specs.Levels.{levels}
 use Rattle.gd_syntax.specs.Reading.Then.{goes, halts}
 use Rattle.gd_syntax.specs.TokenReading.{place_at}
 use Rattle.std.proofs.Common.{ap, arith, sym, ◌∙◌}

@@ -1,7 +1,6 @@
 use Rattle.gd_exprs.specs.Forms.{inner}
 use Rattle.gd_syntax.proofs.ExprSteps.{test_none}
 use Rattle.gd_syntax.proofs.Steps.{exit}
-use Rattle.gd_syntax.specs.Levels.{levels}
 use Rattle.gd_syntax.specs.Reading.Then.{goes, halts}
 use Rattle.gd_syntax.specs.TokenReading.{place_at}
 use Rattle.std.proofs.Common.{arith}
