@@ -24,7 +24,7 @@ module _ (tokens : List Token) (room : ℕ) where
   abbrev pub field : Reading (Identifier × Expr)
   field = grammar.field tokens room inner
 
-  -- ---- lists, where `items` ends before the closing bracket and `list` after it
+  -- ---- lists, where what is named `.._before` ends before the closing bracket
 
   abbrev pub args : Mark → Reading (List Expr)
   args closing = tokenwise.list tokens (inner 0 AS) closing

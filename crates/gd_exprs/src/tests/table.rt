@@ -1,6 +1,5 @@
 // Expressions with their trees or stops, worked out from the level table and the rules of reading.
 use crate::tests::printer::shown;
-use std::alloc::Global;
 use std::process::Abort;
 use std::test::Fail;
 
