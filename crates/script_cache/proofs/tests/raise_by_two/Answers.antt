@@ -39,3 +39,6 @@ module _ (w : WorkGhosts (work.the_row).Denot (out.the_row).Denot (project.the_r
 
 pub join-one-requires-send-F : goal.join-one-requires-send-F
 join-one-requires-send-F g c κs within = search (cache_shared, core_sent, paths_sync, sync, pass.the_send, sendable) depth 40
+
+pub join-one-requires-send-A : goal.join-one-requires-send-A
+join-one-requires-send-A g c κs within = search (core_sent, pass.the_send, sendable, crosses) depth 40
