@@ -7,3 +7,13 @@ pub mod Links
 pub mod Trees
 pub mod Sound
 pub mod Operators
+pub mod ValueTexts
+pub mod StringMethods
+pub mod Formats
+pub mod Changes
+pub mod Comparisons
+pub mod ElementTypes
+pub mod Operations
+pub mod Indexing
+pub mod ArrayMethods
+pub mod DictMethods

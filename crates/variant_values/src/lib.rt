@@ -3,6 +3,7 @@
 
 pub mod cells;
 pub mod classes;
+pub mod container_methods;
 pub mod entries;
 pub mod faults;
 pub mod links;
@@ -10,6 +11,7 @@ pub mod nodes;
 #[cfg(test)]
 mod operator_tests;
 pub mod operators;
+pub mod string_methods;
 pub mod texts;
 pub mod values;
 pub mod weights;

@@ -1,0 +1,14 @@
+use Rattle.std.proofs.Common.{◌∙◌, ap, sym, List, [], ◌∷◌, ◌++◌, take, map}
+use Rattle.variant_values.specs.declared.values.Key.{Key}
+use Rattle.variant_values.specs.declared.values.Value.{Value}
+use Rattle.variant_values.specs.DictMethods.{value_of_key}
+use Rattle.container_calls.proofs.Entries.{map_next}
+use Rattle.container_calls.proofs.dicts.list_keys.Goals as goal
+
+pub loop-i-preserved : goal.loop-i-preserved
+loop-i-preserved c =
+    let next = map_next (λ (e : Key × Value). value_of_key e.0) c.args.entries.now c.loop-i.i (c.entry_at.result.0.now, c.entry_at.result.1.now) c.entry_at.ensures in
+    c.in_ok-push.ensures.items
+    ∙ ap (λ (vs : List Value). vs ++ c.in_ok-value_of_key.field-0 ∷ []) c.loop-i.invariant
+    ∙ ap (λ (v : Value). map (λ (e : Key × Value). value_of_key e.0) (take c.loop-i.i c.args.entries.now) ++ v ∷ []) c.in_ok-value_of_key.ensures
+    ∙ sym next

@@ -1,0 +1,452 @@
+//! The methods of arrays, one by one.
+ghost use Rattle.std.specs.Prelude.{◌≡◌, ◌+◌, ◌<◌, ◌≤◌, ◌^◌, [], ◌∷◌, true, length, unwrap_or, option_copied, reverse, replicate, slice_get, IfOk, IfSome};
+ghost use Rattle.variant_values.specs.Heaps.{cell_at, is_array, knows, with_splice, KnowsAll};
+ghost use Rattle.variant_values.specs.Operators.{Answers};
+ghost use Rattle.variant_values.specs.Changes.{Keeps, HasGiven, weighed};
+ghost use Rattle.variant_values.specs.Comparisons.{count_equal, first_equal, same_value};
+ghost use Rattle.variant_values.specs.ArrayMethods.{append_array_of, append_of, back_of, between, clear_of, count_of, cut, emptiness_of, erase_of, fill_of, find_of, front_of, has_found, has_of, insert_of, item_or_null, items_at, place_number, pop_back_of, pop_front_of, popped, push_front_of, put_of, remove_at_of, removed, reverse_of, shallow_of, size_of, slice_from_of, slice_of, spot_between};
+
+use crate::changes::{new_array, splice};
+use crate::comparisons::{count_equal, first_equal};
+use crate::elements::{all_taken, element, is_taken};
+use crate::indexing::{MOST_ITEMS, one, spot};
+use crate::views::items;
+use ref_objects::heap::Heap;
+use std::alloc::{AllocError, Global};
+use variant_values::faults::{RunFault, Trouble};
+use variant_values::values::{Serial, Value};
+
+/// How many items an array has.
+pub fn size(heap: &Heap, of: Serial) -> Result<Value, RunFault>
+    requires { is_array (cell_at heap.now.cells of.0) ≡ true }
+    ensures { result ≡ size_of (items_at heap.now of.0) }
+{
+    Ok(Value::Int(items(heap, of).len() as i64))
+}
+
+/// Whether it has none.
+pub fn is_empty(heap: &Heap, of: Serial) -> Result<Value, RunFault>
+    requires { is_array (cell_at heap.now.cells of.0) ≡ true }
+    ensures { result ≡ emptiness_of (items_at heap.now of.0) }
+{
+    Ok(Value::Bool(items(heap, of).len() == 0))
+}
+
+fn item_or_null(found: Option<&Value>) -> Result<Value, Trouble>
+    ensures { Answers result (Ok (item_or_null (option_copied found.entry))) }
+{
+    match found {
+        Some(v) => Ok(v.clone()?),
+        None => Ok(Value::Null),
+    }
+}
+
+/// The first item, or null.
+pub fn front(heap: &Heap, of: Serial) -> Result<Value, Trouble>
+    requires { is_array (cell_at heap.now.cells of.0) ≡ true }
+    ensures { Answers result (front_of (items_at heap.now of.0)) }
+{
+    item_or_null(items(heap, of).get(0))
+}
+
+/// The last item, or null.
+pub fn back(heap: &Heap, of: Serial) -> Result<Value, Trouble>
+    requires { is_array (cell_at heap.now.cells of.0) ≡ true }
+    ensures { Answers result (back_of (items_at heap.now of.0)) }
+{
+    let items = items(heap, of);
+    item_or_null(items.get(items.len().saturating_sub(1)))
+}
+
+/// A change of items, and the value that it gives.
+pub fn change(
+    heap: &mut Heap,
+    of: Serial,
+    at: usize,
+    out: usize,
+    put: Vec<Value>,
+    gives: Value,
+) -> Result<Value, Trouble>
+    requires array { is_array (cell_at heap.old.cells of.0) ≡ true }
+    requires items { at + out ≤ length (items_at heap.old of.0) }
+    requires gives { knows heap.old.cells gives ≡ true }
+    requires put { KnowsAll heap.old.cells put.items }
+    ensures given { HasGiven result heap.old heap.new (weighed (with_splice heap.old of.0 at out put.items) gives) }
+    ensures keeps { Keeps heap.old.cells heap.new.cells }
+    ensures known { IfOk result (λ v. knows heap.new.cells v ≡ true) }
+{
+    splice(heap, of, at, out, put)?;
+    Ok(gives)
+}
+
+/// Puts values in the place of others, where they are of the element type and not too many then.
+fn put(
+    heap: &mut Heap,
+    of: Serial,
+    at: usize,
+    out: usize,
+    put: Vec<Value>,
+    gives: Value,
+) -> Result<Value, Trouble>
+    requires array { is_array (cell_at heap.old.cells of.0) ≡ true }
+    requires items { at + out ≤ length (items_at heap.old of.0) }
+    requires gives { knows heap.old.cells gives ≡ true }
+    requires put { KnowsAll heap.old.cells put.items }
+    ensures given { HasGiven result heap.old heap.new (put_of heap.old of.0 at out put.items gives) }
+    ensures keeps { Keeps heap.old.cells heap.new.cells }
+    ensures known { IfOk result (λ v. knows heap.new.cells v ≡ true) }
+{
+    if !all_taken(heap, element(heap, of), put.as_slice()) {
+        return Err(Trouble::Fault(RunFault::ElementType));
+    }
+    if items(heap, of).len() - out + put.len() > MOST_ITEMS {
+        return Err(Trouble::Fault(RunFault::TooLong));
+    }
+    change(heap, of, at, out, put, gives)
+}
+
+/// Puts a value last: `append` and `push_back`.
+pub fn append(alloc: Global, heap: &mut Heap, of: Serial, v: &Value) -> Result<Value, Trouble>
+    requires array { is_array (cell_at heap.old.cells of.0) ≡ true }
+    requires value { knows heap.old.cells v.now ≡ true }
+    ensures given { HasGiven result heap.old heap.new (append_of heap.old of.0 v.now) }
+    ensures keeps { Keeps heap.old.cells heap.new.cells }
+    ensures known { IfOk result (λ v. knows heap.new.cells v ≡ true) }
+{
+    let len = items(heap, of).len();
+    put(heap, of, len, 0, one(alloc, v.clone()?)?, Value::Null)
+}
+
+/// Puts a value first.
+pub fn push_front(alloc: Global, heap: &mut Heap, of: Serial, v: &Value) -> Result<Value, Trouble>
+    requires array { is_array (cell_at heap.old.cells of.0) ≡ true }
+    requires value { knows heap.old.cells v.now ≡ true }
+    ensures given { HasGiven result heap.old heap.new (push_front_of heap.old of.0 v.now) }
+    ensures keeps { Keeps heap.old.cells heap.new.cells }
+    ensures known { IfOk result (λ v. knows heap.new.cells v ≡ true) }
+{
+    put(heap, of, 0, 0, one(alloc, v.clone()?)?, Value::Null)
+}
+
+/// Puts the items of another array last.
+pub fn append_array(
+    alloc: Global,
+    heap: &mut Heap,
+    of: Serial,
+    other: Serial,
+) -> Result<Value, Trouble>
+    requires array { is_array (cell_at heap.old.cells of.0) ≡ true }
+    requires other { is_array (cell_at heap.old.cells other.0) ≡ true }
+    ensures given { HasGiven result heap.old heap.new (append_array_of heap.old of.0 other.0) }
+    ensures keeps { Keeps heap.old.cells heap.new.cells }
+    ensures known { IfOk result (λ v. knows heap.new.cells v ≡ true) }
+{
+    let len = items(heap, of).len();
+    let more = items(heap, other).to_vec(alloc)?;
+    put(heap, of, len, 0, more, Value::Null)
+}
+
+/// The place of an index where a value may go in: a negative one counts from the end, and the size puts last.
+fn spot_between(index: i64, len: usize) -> Option<usize>
+    ensures { result ≡ spot_between index len }
+{
+    let size = index.unsigned_abs() as usize;
+    if size > len {
+        None
+    } else {
+        Some(if index < 0 { len - size } else { size })
+    }
+}
+
+/// Puts a value in before the item at an index.
+pub fn insert(
+    alloc: Global,
+    heap: &mut Heap,
+    of: Serial,
+    index: i64,
+    v: &Value,
+) -> Result<Value, Trouble>
+    requires array { is_array (cell_at heap.old.cells of.0) ≡ true }
+    requires value { knows heap.old.cells v.now ≡ true }
+    ensures given { HasGiven result heap.old heap.new (insert_of heap.old of.0 index v.now) }
+    ensures keeps { Keeps heap.old.cells heap.new.cells }
+    ensures known { IfOk result (λ v. knows heap.new.cells v ≡ true) }
+{
+    let Some(at) = spot_between(index, items(heap, of).len()) else {
+        return Err(Trouble::Fault(RunFault::BadIndex));
+    };
+    put(heap, of, at, 0, one(alloc, v.clone()?)?, Value::Int(0))
+}
+
+/// Takes out the item at an index.
+pub fn remove_at(alloc: Global, heap: &mut Heap, of: Serial, index: i64) -> Result<Value, Trouble>
+    requires { is_array (cell_at heap.old.cells of.0) ≡ true }
+    ensures given { HasGiven result heap.old heap.new (remove_at_of heap.old of.0 index) }
+    ensures keeps { Keeps heap.old.cells heap.new.cells }
+    ensures known { IfOk result (λ v. knows heap.new.cells v ≡ true) }
+{
+    let Some(at) = spot(index, items(heap, of).len()) else {
+        return Err(Trouble::Fault(RunFault::BadIndex));
+    };
+    change(heap, of, at, 1, Vec::new(alloc), Value::Null)
+}
+
+/// Takes out the first item that a value equals.
+pub fn erase(alloc: Global, heap: &mut Heap, of: Serial, v: &Value) -> Result<Value, Trouble>
+    requires array { is_array (cell_at heap.old.cells of.0) ≡ true }
+    requires value { knows heap.old.cells v.now ≡ true }
+    ensures given { HasGiven result heap.old heap.new (erase_of heap.old of.0 v.now) }
+    ensures keeps { Keeps heap.old.cells heap.new.cells }
+    ensures known { IfOk result (λ v. knows heap.new.cells v ≡ true) }
+{
+    let found = find_in(heap, of, v)?;
+    let Some(at) = found else {
+        return Ok(Value::Null);
+    };
+    change(heap, of, at, 1, Vec::new(alloc), Value::Null)
+}
+
+/// The place of the first item that a value equals, which is one.
+fn find_in(heap: &Heap, of: Serial, v: &Value) -> Result<Option<usize>, RunFault>
+    requires array { is_array (cell_at heap.now.cells of.0) ≡ true }
+    requires value { knows heap.now.cells v.now ≡ true }
+    ensures found { result ≡ first_equal (λ w. same_value heap.now.cells v.now w) 0 (items_at heap.now of.0) }
+    ensures within { IfOk result (λ found. IfSome found (λ at. at < length (items_at heap.now of.0))) }
+    ensures small { IfOk result (λ found. IfSome found (λ at. at < 2 ^ 63)) }
+{
+    first_equal(heap, v, items(heap, of))
+}
+
+/// Takes an item out, or gives null where there is none.
+fn pop(alloc: Global, heap: &mut Heap, of: Serial, at: usize) -> Result<Value, Trouble>
+    requires { is_array (cell_at heap.old.cells of.0) ≡ true }
+    ensures given { HasGiven result heap.old heap.new (popped heap.old of.0 at (slice_get (items_at heap.old of.0) at)) }
+    ensures keeps { Keeps heap.old.cells heap.new.cells }
+    ensures known { IfOk result (λ v. knows heap.new.cells v ≡ true) }
+{
+    match copy_at(items(heap, of), at)? {
+        Some(v) => change(heap, of, at, 1, Vec::new(alloc), v),
+        None => Ok(Value::Null),
+    }
+}
+
+fn copy_at(items: &[Value], at: usize) -> Result<Option<Value>, AllocError>
+    ensures { IfOk result (λ v. v ≡ slice_get items.now at) }
+{
+    match items.get(at) {
+        Some(v) => Ok(Some(v.clone()?)),
+        None => Ok(None),
+    }
+}
+
+/// Takes out the last item.
+pub fn pop_back(alloc: Global, heap: &mut Heap, of: Serial) -> Result<Value, Trouble>
+    requires { is_array (cell_at heap.old.cells of.0) ≡ true }
+    ensures given { HasGiven result heap.old heap.new (pop_back_of heap.old of.0) }
+    ensures keeps { Keeps heap.old.cells heap.new.cells }
+    ensures known { IfOk result (λ v. knows heap.new.cells v ≡ true) }
+{
+    let at = items(heap, of).len().saturating_sub(1);
+    pop(alloc, heap, of, at)
+}
+
+/// Takes out the first item.
+pub fn pop_front(alloc: Global, heap: &mut Heap, of: Serial) -> Result<Value, Trouble>
+    requires { is_array (cell_at heap.old.cells of.0) ≡ true }
+    ensures given { HasGiven result heap.old heap.new (pop_front_of heap.old of.0) }
+    ensures keeps { Keeps heap.old.cells heap.new.cells }
+    ensures known { IfOk result (λ v. knows heap.new.cells v ≡ true) }
+{
+    pop(alloc, heap, of, 0)
+}
+
+/// Takes out all items.
+pub fn clear(alloc: Global, heap: &mut Heap, of: Serial) -> Result<Value, Trouble>
+    requires { is_array (cell_at heap.old.cells of.0) ≡ true }
+    ensures given { HasGiven result heap.old heap.new (clear_of heap.old of.0) }
+    ensures keeps { Keeps heap.old.cells heap.new.cells }
+    ensures known { IfOk result (λ v. knows heap.new.cells v ≡ true) }
+{
+    let len = items(heap, of).len();
+    change(heap, of, 0, len, Vec::new(alloc), Value::Null)
+}
+
+fn reversed(alloc: Global, items: &[Value]) -> Result<Vec<Value>, AllocError>
+    ensures { IfOk result (λ list. list.items ≡ reverse items.now) }
+{
+    let mut list = items.to_vec(alloc)?;
+    list.as_mut_slice().reverse();
+    Ok(list)
+}
+
+/// Turns the order of the items.
+pub fn reverse(alloc: Global, heap: &mut Heap, of: Serial) -> Result<Value, Trouble>
+    requires { is_array (cell_at heap.old.cells of.0) ≡ true }
+    ensures given { HasGiven result heap.old heap.new (reverse_of heap.old of.0) }
+    ensures keeps { Keeps heap.old.cells heap.new.cells }
+    ensures known { IfOk result (λ v. knows heap.new.cells v ≡ true) }
+{
+    let list = reversed(alloc, items(heap, of))?;
+    let len = list.len();
+    change(heap, of, 0, len, list, Value::Null)
+}
+
+fn repeated(alloc: Global, v: &Value, count: usize) -> Result<Vec<Value>, AllocError>
+    ensures { IfOk result (λ list. list.items ≡ replicate count v.now) }
+{
+    let mut list = Vec::new(alloc);
+    for _ in 0..count {
+        list.push(v.clone()?)?;
+    }
+    Ok(list)
+}
+
+/// Makes every item one value.
+pub fn fill(alloc: Global, heap: &mut Heap, of: Serial, v: &Value) -> Result<Value, Trouble>
+    requires array { is_array (cell_at heap.old.cells of.0) ≡ true }
+    requires value { knows heap.old.cells v.now ≡ true }
+    ensures given { HasGiven result heap.old heap.new (fill_of heap.old of.0 v.now) }
+    ensures keeps { Keeps heap.old.cells heap.new.cells }
+    ensures known { IfOk result (λ v. knows heap.new.cells v ≡ true) }
+{
+    if !is_taken(heap, element(heap, of), v) {
+        return Err(Trouble::Fault(RunFault::ElementType));
+    }
+    let len = items(heap, of).len();
+    let list = repeated(alloc, v, len)?;
+    change(heap, of, 0, len, list, Value::Null)
+}
+
+/// A place cut to the array, where a negative one counts from the end.
+fn cut(index: i64, len: usize) -> usize
+    ensures { result ≡ cut index len }
+{
+    let size = index.unsigned_abs() as usize;
+    if index < 0 {
+        len.saturating_sub(size)
+    } else {
+        size.min(len)
+    }
+}
+
+/// Copies of the items between two places.
+fn between(
+    alloc: Global,
+    items: &[Value],
+    start: usize,
+    end: usize,
+) -> Result<Vec<Value>, AllocError>
+    requires { end ≤ length items.now }
+    ensures { IfOk result (λ part. part.items ≡ between items.now start end) }
+{
+    if start < end {
+        items[start..end].to_vec(alloc)
+    } else {
+        Ok(Vec::new(alloc))
+    }
+}
+
+/// A new array of the items between two places.
+pub fn slice(
+    alloc: Global,
+    heap: &mut Heap,
+    of: Serial,
+    from: i64,
+    to: i64,
+) -> Result<Value, Trouble>
+    requires { is_array (cell_at heap.old.cells of.0) ≡ true }
+    ensures given { HasGiven result heap.old heap.new (slice_of heap.old of.0 from to) }
+    ensures keeps { Keeps heap.old.cells heap.new.cells }
+    ensures known { IfOk result (λ v. knows heap.new.cells v ≡ true) }
+{
+    let all = items(heap, of);
+    let part = between(alloc, all, cut(from, all.len()), cut(to, all.len()))?;
+    let element = element(heap, of);
+    new_array(heap, part, element)
+}
+
+/// A new array of the items from a place on.
+pub fn slice_from(alloc: Global, heap: &mut Heap, of: Serial, from: i64) -> Result<Value, Trouble>
+    requires { is_array (cell_at heap.old.cells of.0) ≡ true }
+    ensures given { HasGiven result heap.old heap.new (slice_from_of heap.old of.0 from) }
+    ensures keeps { Keeps heap.old.cells heap.new.cells }
+    ensures known { IfOk result (λ v. knows heap.new.cells v ≡ true) }
+{
+    let all = items(heap, of);
+    let part = between(alloc, all, cut(from, all.len()), all.len())?;
+    let element = element(heap, of);
+    new_array(heap, part, element)
+}
+
+/// A new array of the same items. Containers inside stay shared.
+pub fn duplicate(alloc: Global, heap: &mut Heap, of: Serial) -> Result<Value, Trouble>
+    requires { is_array (cell_at heap.old.cells of.0) ≡ true }
+    ensures given { HasGiven result heap.old heap.new (shallow_of heap.old of.0) }
+    ensures keeps { Keeps heap.old.cells heap.new.cells }
+    ensures known { IfOk result (λ v. knows heap.new.cells v ≡ true) }
+{
+    let all = items(heap, of).to_vec(alloc)?;
+    let element = element(heap, of);
+    new_array(heap, all, element)
+}
+
+/// Whether an item equals a value.
+pub fn has(heap: &Heap, of: Serial, v: &Value) -> Result<Value, RunFault>
+    requires array { is_array (cell_at heap.now.cells of.0) ≡ true }
+    requires value { knows heap.now.cells v.now ≡ true }
+    ensures { result ≡ has_of heap.now of.0 v.now }
+{
+    has_found(find_in(heap, of, v))
+}
+
+fn has_found(found: Result<Option<usize>, RunFault>) -> Result<Value, RunFault>
+    ensures { result ≡ has_found found }
+{
+    match found {
+        Ok(place) => Ok(Value::Bool(place.is_some())),
+        Err(fault) => Err(fault),
+    }
+}
+
+/// The first place of an equal item, or -1.
+pub fn find(heap: &Heap, of: Serial, v: &Value) -> Result<Value, RunFault>
+    requires array { is_array (cell_at heap.now.cells of.0) ≡ true }
+    requires value { knows heap.now.cells v.now ≡ true }
+    ensures { result ≡ find_of heap.now of.0 v.now }
+{
+    match find_in(heap, of, v) {
+        Ok(found) => Ok(Value::Int(place_number(found))),
+        Err(fault) => Err(fault),
+    }
+}
+
+fn place_number(found: Option<usize>) -> i64
+    requires { IfSome found (λ at. at < 2 ^ 63) }
+    ensures { result ≡ place_number found }
+{
+    match found {
+        Some(at) => at as i64,
+        None => -1,
+    }
+}
+
+/// How many items equal a value.
+pub fn count(heap: &Heap, of: Serial, v: &Value) -> Result<Value, RunFault>
+    requires array { is_array (cell_at heap.now.cells of.0) ≡ true }
+    requires value { knows heap.now.cells v.now ≡ true }
+    ensures { result ≡ count_of heap.now of.0 v.now }
+{
+    match count_in(heap, of, v) {
+        Ok(count) => Ok(Value::Int(count as i64)),
+        Err(fault) => Err(fault),
+    }
+}
+
+fn count_in(heap: &Heap, of: Serial, v: &Value) -> Result<usize, RunFault>
+    requires array { is_array (cell_at heap.now.cells of.0) ≡ true }
+    requires value { knows heap.now.cells v.now ≡ true }
+    ensures count { result ≡ count_equal (λ w. same_value heap.now.cells v.now w) 0 (items_at heap.now of.0) }
+    ensures few { IfOk result (λ count. count < 2 ^ 63) }
+{
+    count_equal(heap, v, items(heap, of))
+}

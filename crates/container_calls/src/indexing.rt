@@ -1,0 +1,197 @@
+// Reading and writing by an index.
+ghost use Rattle.std.specs.Prelude.{◌≡◌, ◌∷◌, [], true, length, nat_le, option_copied, IfOk, slice_get};
+ghost use Rattle.std.specs.Char.{encode_utf8};
+ghost use Rattle.std.specs.Str.{chars};
+ghost use Rattle.variant_values.specs.Heaps.{cell_at, is_array, is_dict, items_of, knows, knows_key};
+ghost use Rattle.variant_values.specs.Operators.{Answers, key_of};
+ghost use Rattle.variant_values.specs.Changes.{Keeps, HasGiven};
+ghost use Rattle.variant_values.specs.Indexing.{character_at, entry_at, entry_put, entry_put_at, index_of, index_put, item_at, item_put, or_fault, spot};
+ghost use Rattle.variant_values.specs.Keys.{with_entry};
+ghost use Rattle.variant_values.specs.declared.values.Value.{Value as AValue};
+
+use crate::changes::{set_entry, splice};
+use crate::elements::{element, is_taken};
+use crate::views::{entries, items};
+use ref_objects::heap::Heap;
+use std::alloc::{AllocError, Global};
+use variant_values::entries::Entries;
+use variant_values::faults::{RunFault, Trouble};
+use variant_values::texts::Str;
+use variant_values::values::{Key, Serial, Value};
+
+/// The most items that a container may have.
+pub const MOST_ITEMS: usize = 1_048_576;
+
+/// The place of an index among `len`, where a negative one counts from the end.
+pub fn spot(index: i64, len: usize) -> Option<usize>
+    ensures { result ≡ spot index len }
+{
+    let size = index.unsigned_abs() as usize;
+    if index < 0 {
+        if size <= len { Some(len - size) } else { None }
+    } else {
+        if size < len { Some(size) } else { None }
+    }
+}
+
+/// A value that was found, or the fault where there is none.
+pub fn or_fault(fault: RunFault, found: Option<&Value>) -> Result<Value, Trouble>
+    ensures { Answers result (or_fault fault (option_copied found.entry)) }
+{
+    match found {
+        Some(v) => Ok(v.clone()?),
+        None => Err(Trouble::Fault(fault)),
+    }
+}
+
+fn item_at(items: &[Value], at: Option<usize>) -> Result<Value, Trouble>
+    ensures { Answers result (item_at items.now at) }
+{
+    match at {
+        Some(at) => or_fault(RunFault::BadIndex, items.get(at)),
+        None => Err(Trouble::Fault(RunFault::BadIndex)),
+    }
+}
+
+fn item(items: &[Value], index: i64) -> Result<Value, Trouble>
+    ensures { Answers result (item_at items.now (spot index (length items.now))) }
+{
+    item_at(items, spot(index, items.len()))
+}
+
+fn text_of_char(alloc: Global, c: char) -> Result<Str, AllocError>
+    ensures { IfOk result (λ text. text ≡ encode_utf8 c) }
+{
+    let mut text = String::new(alloc);
+    text.push(c)?;
+    Str::from_string(text)
+}
+
+fn count_chars(text: &Str) -> usize
+    ensures { result ≡ length (chars text.now) }
+{
+    text.as_str().chars().count()
+}
+
+fn char_at(text: &Str, at: usize) -> Option<char>
+    ensures { result ≡ slice_get (chars text.now) at }
+{
+    text.as_str().chars().nth(at)
+}
+
+fn character(alloc: Global, text: &Str, index: i64) -> Result<Value, Trouble>
+    ensures { Answers result (character_at (chars text.now) (spot index (length (chars text.now)))) }
+{
+    let Some(at) = spot(index, count_chars(text)) else {
+        return Err(Trouble::Fault(RunFault::BadIndex));
+    };
+    match char_at(text, at) {
+        Some(c) => Ok(Value::Str(text_of_char(alloc, c)?)),
+        None => Err(Trouble::Fault(RunFault::BadIndex)),
+    }
+}
+
+fn entry(entries: &Entries, index: &Value) -> Result<Value, Trouble>
+    ensures { Answers result (entry_at entries.now (key_of index.now)) }
+{
+    let key = Key::of(index)?;
+    or_fault(RunFault::NoKey, entries.get(&key))
+}
+
+/// `of[index]`: an array or a text by place, where a negative one counts from the end, and a dictionary by key.
+pub fn get_index(alloc: Global, heap: &Heap, of: &Value, index: &Value) -> Result<Value, Trouble>
+    requires { knows heap.now.cells of.now ≡ true }
+    ensures { Answers result (index_of heap.now.cells of.now index.now) }
+{
+    match (of, index) {
+        (Value::Array(s), Value::Int(i)) => item(items(heap, *s), *i),
+        (Value::Str(text), Value::Int(i)) => character(alloc, text, *i),
+        (Value::Dict(s), _) => entry(entries(heap, *s), index),
+        _ => Err(Trouble::Fault(RunFault::BadOperands)),
+    }
+}
+
+fn set_item(
+    alloc: Global,
+    heap: &mut Heap,
+    of: Serial,
+    index: i64,
+    to: Value,
+) -> Result<(), Trouble>
+    requires array { is_array (cell_at heap.old.cells of.0) ≡ true }
+    requires to { knows heap.old.cells to ≡ true }
+    ensures given { HasGiven result heap.old heap.new (item_put heap.old of.0 (spot index (length (items_of (cell_at heap.old.cells of.0)))) to) }
+    ensures keeps { Keeps heap.old.cells heap.new.cells }
+{
+    let Some(at) = spot(index, items(heap, of).len()) else {
+        return Err(Trouble::Fault(RunFault::BadIndex));
+    };
+    if !is_taken(heap, element(heap, of), &to) {
+        return Err(Trouble::Fault(RunFault::ElementType));
+    }
+    splice(heap, of, at, 1, one(alloc, to)?)
+}
+
+/// Gives a dictionary an entry, where it has not too many then.
+pub fn put_entry(heap: &mut Heap, of: Serial, key: Key, to: Value) -> Result<(), Trouble>
+    requires dict { is_dict (cell_at heap.old.cells of.0) ≡ true }
+    requires key { knows_key heap.old.cells key ≡ true }
+    requires to { knows heap.old.cells to ≡ true }
+    ensures given { HasGiven result heap.old heap.new (entry_put_at heap.old of.0 key to) }
+    ensures keeps { Keeps heap.old.cells heap.new.cells }
+{
+    if !has_room(entries(heap, of), &key) {
+        return Err(Trouble::Fault(RunFault::TooLong));
+    }
+    set_entry(heap, of, key, to)
+}
+
+/// Whether there are not too many entries once a key is among them.
+fn has_room(entries: &Entries, key: &Key) -> bool
+    ensures { (v : AValue) → result ≡ nat_le (length (with_entry entries.now key.now v)) 1048576 }
+{
+    match entries.get(key) {
+        Some(_) => entries.len() <= MOST_ITEMS,
+        None => entries.len() < MOST_ITEMS,
+    }
+}
+
+fn set_by_key(heap: &mut Heap, of: Serial, index: &Value, to: Value) -> Result<(), Trouble>
+    requires dict { is_dict (cell_at heap.old.cells of.0) ≡ true }
+    requires index { knows heap.old.cells index.now ≡ true }
+    requires to { knows heap.old.cells to ≡ true }
+    ensures given { HasGiven result heap.old heap.new (entry_put heap.old of.0 (key_of index.now) to) }
+    ensures keeps { Keeps heap.old.cells heap.new.cells }
+{
+    put_entry(heap, of, Key::of(index)?, to)
+}
+
+/// `of[index] = to`. A text takes no character.
+pub fn set_index(
+    alloc: Global,
+    heap: &mut Heap,
+    of: &Value,
+    index: &Value,
+    to: Value,
+) -> Result<(), Trouble>
+    requires of { knows heap.old.cells of.now ≡ true }
+    requires index { knows heap.old.cells index.now ≡ true }
+    requires to { knows heap.old.cells to ≡ true }
+    ensures given { HasGiven result heap.old heap.new (index_put heap.old of.now index.now to) }
+    ensures keeps { Keeps heap.old.cells heap.new.cells }
+{
+    match (of, index) {
+        (Value::Array(s), Value::Int(i)) => set_item(alloc, heap, *s, *i, to),
+        (Value::Dict(s), _) => set_by_key(heap, *s, index, to),
+        _ => Err(Trouble::Fault(RunFault::BadOperands)),
+    }
+}
+
+/// A list of one value.
+pub fn one(alloc: Global, v: Value) -> Result<Vec<Value>, AllocError>
+    ensures { IfOk result (λ list. list.items ≡ v ∷ []) }
+{
+    let mut list = Vec::new(alloc);
+    list.push(v)?;
+    Ok(list)
+}

@@ -1,0 +1,4 @@
+pub mod Directives
+pub mod Drafts
+pub mod Plain
+pub mod Writes

@@ -1,0 +1,109 @@
+// Calls of the methods of strings.
+ghost use Rattle.std.specs.Prelude.{◌≡◌, true, IfOk};
+ghost use Rattle.variant_values.specs.Heaps.{knows, KnowsAll};
+ghost use Rattle.variant_values.specs.Operators.{Answers};
+ghost use Rattle.variant_values.specs.StringMethods.{placed_array, split_call, string_value, string_call_of};
+ghost use Rattle.string_calls.specs.Writes.{CallAnswers};
+
+use crate::arguments::one_string;
+use crate::joins::{join, parts, replace};
+use crate::methods;
+use crate::methods::BAD_ARGS;
+use ref_objects::heap::Heap;
+use std::alloc::Global;
+use variant_values::cells::{Cell, Values};
+use variant_values::faults::{RunFault, Trouble};
+use variant_values::string_methods::StrMethod;
+use variant_values::texts::Str;
+use variant_values::values::Value;
+
+fn placed_array(heap: &mut Heap, items: Values) -> Result<Value, Trouble>
+    requires { KnowsAll heap.old.cells items }
+    ensures { CallAnswers heap.old heap.new result (placed_array heap.old items) }
+{
+    match heap.new_cell(Cell::Array(items, None)) {
+        Ok(serial) => Ok(Value::Array(serial)),
+        Err(Trouble::Fault(RunFault::HeapFull)) => Err(Trouble::Fault(RunFault::HeapFull)),
+        Err(_) => Err(Trouble::NoMemory),
+    }
+}
+
+fn split(alloc: Global, heap: &mut Heap, of: &Str, args: &[Value]) -> Result<Value, Trouble>
+    ensures { CallAnswers heap.old heap.new result (split_call heap.old of.now args.now) }
+{
+    let Some(by) = one_string(args) else {
+        return Err(BAD_ARGS);
+    };
+    if by.len() == 0 {
+        return Err(BAD_ARGS);
+    }
+    let items = parts(alloc, of.as_str(), by.as_str())?;
+    placed_array(heap, items)
+}
+
+/// Those that look at strings and numbers alone.
+fn string_value(
+    alloc: Global,
+    method: StrMethod,
+    of: &Str,
+    args: &[Value],
+) -> Result<Value, Trouble>
+    ensures { Answers result (string_value method of.now args.now) }
+{
+    match method {
+        StrMethod::Length => methods::length(of, args),
+        StrMethod::IsEmpty => methods::is_empty(of, args),
+        StrMethod::Substr => methods::substr(alloc, of, args),
+        StrMethod::Left => methods::left(alloc, of, args),
+        StrMethod::Right => methods::right(alloc, of, args),
+        StrMethod::Find => methods::find(of, args),
+        StrMethod::Contains => methods::contains(of, args),
+        StrMethod::BeginsWith => methods::begins(of, args),
+        StrMethod::EndsWith => methods::ends(of, args),
+        StrMethod::Replace => replace(alloc, of, args),
+        StrMethod::Repeat => methods::repeat(alloc, of, args),
+        StrMethod::ToUpper => methods::to_upper(alloc, of, args),
+        StrMethod::ToLower => methods::to_lower(alloc, of, args),
+        StrMethod::StripEdges => methods::strip_edges(alloc, of, args),
+        StrMethod::IsValidInt => methods::is_valid_int(of, args),
+        StrMethod::ToInt => methods::to_int(of, args),
+        StrMethod::UnicodeAt => methods::unicode_at(of, args),
+        StrMethod::Split | StrMethod::Join => Err(BAD_ARGS),
+    }
+}
+
+fn answer(
+    alloc: Global,
+    heap: &mut Heap,
+    method: StrMethod,
+    of: &Str,
+    args: &[Value],
+) -> Result<Value, Trouble>
+    requires { KnowsAll heap.old.cells args.now }
+    ensures { CallAnswers heap.old heap.new result (string_call_of heap.old method of.now args.now) }
+{
+    match method {
+        StrMethod::Split => split(alloc, heap, of, args),
+        StrMethod::Join => join(alloc, heap, of, args),
+        _ => string_value(alloc, method, of, args),
+    }
+}
+
+/// Calls a method of a string. Places and lengths count characters. `BadArgs` where the number or a kind of the arguments is
+/// wrong, a number is negative (but a length of -1, which means the rest), `what` of `replace` or `by` of `split` is empty, a
+/// joined item is no string, or `to_int` is of no whole number of 64 bits; `BadIndex` where `unicode_at` has no such
+/// character; `TooLong` where a string would have more than 1,048,576 bytes, or an array as many items; `HeapFull` where
+/// `split` finds no room for its array, which no caller holds yet.
+pub fn string_call(
+    alloc: Global,
+    heap: &mut Heap,
+    method: StrMethod,
+    of: &Str,
+    args: &[Value],
+) -> Result<Value, Trouble>
+    requires { KnowsAll heap.old.cells args.now }
+    ensures answer { CallAnswers heap.old heap.new result (string_call_of heap.old method of.now args.now) }
+    ensures known { IfOk result (λ v. knows heap.new.cells v ≡ true) }
+{
+    answer(alloc, heap, method, of, args)
+}

@@ -1,0 +1,23 @@
+//! Methods of strings, texts of values and formats.
+#![tactic(auto)]
+
+mod arguments;
+mod builders;
+pub mod calls;
+mod directives;
+mod edges;
+#[cfg(test)]
+mod format_tests;
+pub mod formats;
+mod joins;
+mod methods;
+mod pieces;
+mod searches;
+#[cfg(test)]
+mod tests;
+#[cfg(test)]
+mod text_tests;
+pub mod texts;
+mod walks;
+#[cfg(test)]
+mod worlds;

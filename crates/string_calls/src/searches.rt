@@ -1,0 +1,98 @@
+// Places in texts, and texts cut at places.
+ghost use Rattle.std.specs.Prelude.{◌≡◌, ◌≤◌, ◌+◌, length, take, drop, chars, IsCharBoundary, IsUtf8, IfSome, nat_eq, option_map, slice_get};
+ghost use Rattle.std.specs.List.{starts_with, ends_with};
+ghost use Rattle.variant_values.specs.StringMethods.{first_place, first_split, spelled, place_from, chars_before, char_at};
+
+use crate::arguments::natural;
+
+pub fn count_chars(text: &str) -> usize
+    ensures chars { result ≡ length (chars text.now) }
+    ensures short { result ≤ length text.now }
+{
+    text.chars().count()
+}
+
+/// The text after so many characters.
+fn rest_after(text: &str, n: usize) -> &str
+    ensures { result.now ≡ spelled (drop n (chars text.now)) }
+{
+    let mut rest = text.chars();
+    for _ in 0..n {
+        if rest.next().is_none() {
+            return "";
+        }
+    }
+    rest.as_str()
+}
+
+/// A text cut after so many characters.
+pub fn split_chars(text: &str, n: usize) -> (&str, &str)
+    ensures front { result.0.now ≡ spelled (take n (chars text.now)) }
+    ensures back { result.1.now ≡ spelled (drop n (chars text.now)) }
+{
+    let rest = rest_after(text, n);
+    text.split_at(text.len() - rest.len())
+}
+
+/// The byte at which a text first stands in another.
+pub fn first_place(text: &str, what: &str) -> Option<usize>
+    ensures place { result ≡ first_place what.now text.now }
+    ensures boundary { IfSome result (λ i. IsCharBoundary text.now i) }
+{
+    text.find(what)
+}
+
+/// The place in characters where a text first stands in another, from a place on.
+pub fn place_from(text: &str, what: &str, from: usize) -> Option<usize>
+    ensures place { result ≡ place_from what.now from text.now }
+    ensures within { IfSome result (λ n. n ≤ length text.now) }
+{
+    if count_chars(text) < from {
+        return None;
+    }
+    let (_, rest) = split_chars(text, from);
+    let place = first_place(rest, what)?;
+    let (before, _) = rest.split_at(place);
+    Some(from + count_chars(before))
+}
+
+fn nth_char(text: &str, n: usize) -> Option<char>
+    ensures { result ≡ slice_get (chars text.now) n }
+{
+    let (_, rest) = split_chars(text, n);
+    rest.chars().next()
+}
+
+/// The code of the character at an index.
+pub fn char_at(text: &str, index: i64) -> Option<u32>
+    ensures { result ≡ char_at (chars text.now) index }
+{
+    match natural(index) {
+        Some(n) => match nth_char(text, n) {
+            Some(c) => Some(c as u32),
+            None => None,
+        },
+        None => None,
+    }
+}
+
+/// The text before a first place of another, and that behind it.
+pub fn split_first<'a>(text: &'a str, by: &str) -> Option<(&'a str, &'a str)>
+    ensures parts { option_map (λ p. (p.0.now, p.1.now)) result ≡ first_split by.now text.now }
+    ensures utf8 { IfSome result (λ p. IsUtf8 p.1.now) }
+    ensures shorter { IfSome result (λ p. length p.1.now + length by.now ≤ length text.now) }
+{
+    text.split_once(by)
+}
+
+pub fn begins_with(text: &str, what: &str) -> bool
+    ensures { result ≡ starts_with nat_eq text.now what.now }
+{
+    text.starts_with(what)
+}
+
+pub fn ends_with(text: &str, what: &str) -> bool
+    ensures { result ≡ ends_with nat_eq text.now what.now }
+{
+    text.ends_with(what)
+}
