@@ -1,13 +1,14 @@
 // The global name of a script.
 ghost use Rattle.std.specs.Prelude.{◌≡◌, ◌≤◌, ◌^◌, ◌==◌, ◌&&◌, not, true, if◌then◌else◌, length, drop, option_map};
+ghost use Rattle.gd_syntax.specs.Layout.{past_all, text_of};
 ghost use Rattle.gd_syntax.specs.Spellings.{begins};
 ghost use Rattle.std.specs.Str.{chars};
-ghost use Rattle.gd_syntax.specs.Header.{global_of, global_from, is_header_line, name_behind};
+ghost use Rattle.gd_syntax.specs.Header.{global_of, header_end_of, header_len, header_text, is_header_line, name_behind, name_from, start};
 ghost use Rattle.gd_header.specs.Parts.{global_in};
 
 use crate::cursor::{Cursor, is_at_end, split_first};
 use crate::parts::{Part, blanks_len, is_header_line, part_at};
-use crate::words::{is_keyword, split_word};
+use crate::words::{front_before, is_keyword, split_word};
 use gd_syntax::Place;
 use gd_tokens::{starts_word, valid_front};
 
@@ -33,26 +34,41 @@ fn ends_header(starts_line: bool, text: &str) -> bool
     starts_line && !is_header_line(text)
 }
 
-/// The global name of a text.
-fn global_name(text: &str) -> Option<(&str, Place)>
+/// Goes past the header lines.
+fn pass_header(cursor: &mut Cursor)
+    ensures rest { chars cursor.new.rest.now ≡ drop (header_len true (chars cursor.old.rest.now)) (chars cursor.old.rest.now) }
+    ensures place { cursor.new.place ≡ past_all cursor.old.place (header_text (chars cursor.old.rest.now)) }
+{
+    let mut starts = true;
+    while let Some((c, _)) = split_first(cursor.rest) {
+        if ends_header(starts, cursor.rest) {
+            return;
+        }
+        cursor.skip(1);
+        starts = c == '\n';
+    }
+}
+
+/// The header lines of a text.
+fn header_text(text: &str) -> &str
     requires { length text.now ≤ 2 ^ 30 }
-    ensures { option_map global_in result ≡ global_from true 0 (record { line = 1; column = 1 }) (chars text.now) }
+    ensures value { chars result.now ≡ header_text (chars text.now) }
+    ensures bound { length result.now ≤ length text.now }
 {
     let mut cursor = Cursor::new(text);
-    let mut starts = true;
+    pass_header(&mut cursor);
+    front_before(text, cursor.rest)
+}
+
+/// The global name in the lines of a header.
+fn global_name(text: &str) -> Option<(&str, Place)>
+    requires { length text.now ≤ 2 ^ 30 }
+    ensures { option_map global_in result ≡ name_from 0 start (chars text.now) }
+{
+    let mut cursor = Cursor::new(text);
     while !is_at_end(cursor.rest) {
-        if ends_header(starts, cursor.rest) {
-            return None;
-        }
         match part_at(cursor.rest) {
-            Part::LineEnd(n) => {
-                cursor.skip(n);
-                starts = true;
-            }
-            Part::Passed(n) => {
-                cursor.skip(n);
-                starts = false;
-            }
+            Part::Passed(n) => cursor.skip(n),
             Part::Keyword => {
                 cursor.skip(KEYWORD.len());
                 return name_behind(&mut cursor);
@@ -74,11 +90,28 @@ fn without_mark(text: &str) -> &str
     }
 }
 
+/// The text of a file. Behind a byte that is no UTF-8 there is none.
+fn text_of(bytes: &[u8]) -> &str
+    ensures value { chars result.now ≡ text_of bytes.now }
+    ensures bound { length result.now ≤ length bytes.now }
+{
+    without_mark(valid_front(bytes))
+}
+
 /// The global name of a script, with its place: the identifier behind the first word `class_name` of its header lines.
-/// Behind a byte that is no UTF-8 there is no text.
 pub fn header(text: &[u8]) -> Option<(&str, Place)>
     requires { length text.now ≤ 1048576 }
     ensures { option_map global_in result ≡ global_of text.now }
 {
-    global_name(without_mark(valid_front(text)))
+    global_name(header_text(text_of(text)))
+}
+
+/// Where the header lines of a script end: the place just past their last character.
+pub fn header_end(text: &[u8]) -> Place
+    requires { length text.now ≤ 1048576 }
+    ensures { result ≡ header_end_of text.now }
+{
+    let mut cursor = Cursor::new(text_of(text));
+    pass_header(&mut cursor);
+    cursor.place
 }

@@ -1,4 +1,4 @@
-//! The global name in the header of a script.
+//! The header of a script: its global name, and where it ends.
 #![tactic(auto)]
 
 mod cursor;
@@ -8,4 +8,4 @@ mod parts;
 mod tests;
 mod words;
 
-pub use global::header;
+pub use global::{header, header_end};

@@ -13,7 +13,6 @@ use gd_tokens::{is_blank, is_quote};
 /// What stands at a place, with the number of its characters.
 #[derive(Clone, Copy)]
 pub enum Part {
-    LineEnd(usize),
     /// A comment, a string, a word or another character.
     Passed(usize),
     /// The word `class_name`.
@@ -32,7 +31,7 @@ fn begins_line_feed(text: &str) -> bool
 }
 
 /// How many characters of a line end begin the text.
-pub fn line_end_len(text: &str) -> usize
+fn line_end_len(text: &str) -> usize
     ensures { result ≡ line_end_len (chars text.now) }
 {
     let Some((c, rest)) = split_first(text) else {
@@ -198,10 +197,6 @@ pub fn part_at(text: &str) -> Part
     let Some((c, rest)) = split_first(text) else {
         return Part::Unended;
     };
-    let n = line_end_len(text);
-    if n > 0 {
-        return Part::LineEnd(n);
-    }
     if c == '#' {
         return Part::Passed(1 + line_len(rest));
     }

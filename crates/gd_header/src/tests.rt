@@ -33,12 +33,7 @@ fn names_that_a_header_gives(rt: HostRuntime) -> Result<(), Fail> {
         (b"@tool\nclass_name A", "A", 2, 12),
         (b"@icon(\"class_name B\")\nclass_name A", "A", 2, 12),
         (b"@icon('a\\'class_name B')\nclass_name A", "A", 2, 12),
-        (
-            b"@icon(\"\"\"x\nclass_name B\n\"\"\") class_name A",
-            "A",
-            3,
-            17,
-        ),
+        (b"@icon(\"\"\"x\n@b\"\"\") class_name A", "A", 2, 19),
         (b"@tool class_name A\nvar x = 1\n", "A", 1, 18),
         (b"\xef\xbb\xbfclass_name A", "A", 1, 12),
         (b"class_name A\r\nclass_name B\r\n", "A", 1, 12),
@@ -50,7 +45,7 @@ fn names_that_a_header_gives(rt: HostRuntime) -> Result<(), Fail> {
 
 #[test]
 fn texts_without_a_name(rt: HostRuntime) -> Result<(), Fail> {
-    let cases: [(&[u8], &str, u32, u32); 15] = [
+    let cases: [(&[u8], &str, u32, u32); 17] = [
         (b"", "", 0, 0),
         (b"var class_name_x = 1", "", 0, 0),
         (b"class_name_x = 1", "", 0, 0),
@@ -64,6 +59,13 @@ fn texts_without_a_name(rt: HostRuntime) -> Result<(), Fail> {
         (b"# class_name A", "", 0, 0),
         (b"@icon(\"class_name A\")", "", 0, 0),
         (b"@icon(\"x\nclass_name A", "", 0, 0),
+        (
+            b"@icon(\"\"\"x\nclass_name B\n\"\"\") class_name A",
+            "",
+            0,
+            0,
+        ),
+        (b"@tool\n  # a\nclass_name A", "", 0, 0),
         (b"extendsNode\nclass_name A", "", 0, 0),
         (b"@tool\n\xff\nclass_name A", "", 0, 0),
     ];
@@ -77,4 +79,30 @@ fn a_name_before_a_bad_byte_counts(rt: HostRuntime) -> Result<(), Fail> {
         (b"class_name A\xff", "A", 1, 12),
     ];
     check(&rt, &cases)
+}
+
+#[test]
+fn ends_of_headers(rt: HostRuntime) -> Result<(), Fail> {
+    let cases: [(&[u8], u32, u32); 11] = [
+        (b"", 1, 1),
+        (b"class_name A\n", 2, 1),
+        (b"var x = 1\n", 1, 1),
+        (b"extends Node\n# c\n\nvar x", 4, 1),
+        (b"@tool\n  # c\nclass_name A", 2, 1),
+        (b"@icon('x\ny')\nclass_name A", 2, 1),
+        (b"@icon('x\n@y')\nclass_name A\nvar x", 4, 1),
+        ("# äb".as_bytes(), 1, 5),
+        (b"\xef\xbb\xbf@tool", 1, 6),
+        (b"@tool\r\n\r\n extends Node", 3, 1),
+        (b"@tool\n@\xff", 2, 2),
+    ];
+    for (text, line, column) in &cases {
+        if text.len() > 1048576 {
+            return Err(Fail::from("long"));
+        }
+        let place = header_end(text);
+        assert_eq!(rt; place.line, *line);
+        assert_eq!(rt; place.column, *column);
+    }
+    Ok(())
 }

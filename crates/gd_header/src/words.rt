@@ -1,5 +1,5 @@
 // Words of a text.
-ghost use Rattle.std.specs.Prelude.{◌≡◌, ℕ, bytes_eq, take, drop, is_some};
+ghost use Rattle.std.specs.Prelude.{◌≡◌, ◌≤◌, ℕ, bytes_eq, length, take, drop, is_some};
 ghost use Rattle.std.specs.List.{prefix_len};
 ghost use Rattle.std.specs.Str.{chars};
 ghost use Rattle.unicode_ident.specs.Ident.{is_xid_continue};
@@ -49,9 +49,10 @@ pub fn is_keyword(word: &str) -> bool
 }
 
 /// The text in front of this end of it.
-fn front_before<'a>(text: &'a str, end: &str) -> &'a str
+pub fn front_before<'a>(text: &'a str, end: &str) -> &'a str
     requires { IsEnd (chars text.now) (chars end.now) }
-    ensures { (n : ℕ) → chars end.now ≡ drop n (chars text.now) → chars result.now ≡ take n (chars text.now) }
+    ensures bound { length result.now ≤ length text.now }
+    ensures front { (n : ℕ) → chars end.now ≡ drop n (chars text.now) → chars result.now ≡ take n (chars text.now) }
 {
     let (front, _) = text.split_at(text.len() - end.len());
     front

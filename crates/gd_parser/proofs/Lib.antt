@@ -1,7 +1,5 @@
-pub mod Runs
-pub mod Complete
-pub mod Spelled
-pub mod Sound
-pub mod Ends
-pub mod Breaks
-pub mod FirstLaw
+pub mod BlockParts
+pub mod HeadSteps
+pub mod Others
+pub mod PatternParts
+pub mod Sorts

@@ -12,7 +12,7 @@ use Rattle.gd_syntax.specs.Reading.{Then, Look, Loop}
 use Rattle.gd_syntax.specs.declared.stops.Sought.TheVariants.{Other}
 use Rattle.gd_syntax.specs.TokenReading.{mark_at, place_at}
 use Rattle.gd_syntax.specs.MemberGrammar.{max_open_classes, is_field_annotation, class_block}
-use Rattle.gd_syntax.specs.ScriptGrammar.{Heads, is_head_annotation, may_follow, is_named, is_based, is_annotated, in_header, base_by, name_by, class_name, extends, head_by, head, first_member, no_member, rest, file_by, file, script}
+use Rattle.gd_syntax.specs.ScriptGrammar.{Heads, is_head_annotation, may_follow, is_named, is_based, is_annotated, is_before, base_by, name_by, class_name, extends, head_by, head, first_member, no_member, rest, file_by, file, script}
 use Rattle.gd_syntax.proofs.Exists.{Reads, Takes, Moves, taken, reads_then, takes, reads, sound_look, sound_either, sound_at, sound_refuse, reads_give, goes_on, ends, moves_look, moves_at, Ends, ends_mark, reads_loop, takes_due}
 use Rattle.gd_syntax.proofs.ExistsDeclarations.{past, takes_new_name, takes_annot}
 use Rattle.gd_syntax.proofs.ExistsMembers.{takes_base, reads_extends_by, takes_annotated, reads_members, takes_class_block}
@@ -68,5 +68,5 @@ module _ (tokens : List Token) where
     takes_file = sound_at 1 (λ place. Then (Loop (head tokens found) ([], [])) (λ sofar. Look (λ to. is_annotated (mark_at tokens to)) (file_by tokens found (place_at tokens place) sofar)))
         (λ at. takes _ _ (reads_loop tokens _ moves_head ends_head ([], [])) (λ sofar. sound_look 1 _ _ (takes_file_by (place_at tokens at) sofar)))
 
-  pub takes_script : Takes (script tokens)
-  takes_script = takes_file (in_header tokens)
+  pub takes_script : (header_end : Place) → Takes (script tokens header_end)
+  takes_script header_end = takes_file (λ at. is_before (place_at tokens at) header_end)

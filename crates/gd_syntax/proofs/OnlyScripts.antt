@@ -11,7 +11,7 @@ use Rattle.gd_syntax.specs.declared.tree.member.Member.{Member}
 use Rattle.gd_syntax.specs.declared.stops.Sought.TheVariants.{Other}
 use Rattle.gd_syntax.specs.TokenReading.{place_at}
 use Rattle.gd_syntax.specs.MemberGrammar.{max_open_classes, is_field_annotation, class_block}
-use Rattle.gd_syntax.specs.ScriptGrammar.{Heads, is_head_annotation, may_follow, is_named, is_based, in_header, base_by, name_by, class_name, extends, head_by, head, first_member, no_member, rest, file_by, file, script}
+use Rattle.gd_syntax.specs.ScriptGrammar.{Heads, is_head_annotation, may_follow, is_named, is_based, is_before, base_by, name_by, class_name, extends, head_by, head, first_member, no_member, rest, file_by, file, script}
 use Rattle.gd_syntax.proofs.Only.{Only, only_is, only_then, only_look, only_loop, only_either, only_skip, only_due}
 use Rattle.gd_syntax.proofs.OnlyDeclarations.{only_new_name, only_annot}
 use Rattle.gd_syntax.proofs.OnlyMembers.{only_base, only_extends_by, only_annotated, only_members, only_class_block}
@@ -62,5 +62,5 @@ module _ (tokens : List Token) where
     pub only_file : Only (file tokens found)
     only_file at = only_then _ _ (only_loop _ only_head ([], [])) (λ sofar. only_look _ _ (only_file_by (place_at tokens at) sofar)) at
 
-  pub only_script : Only (script tokens)
-  only_script = only_file (in_header tokens)
+  pub only_script : (header_end : Place) → Only (script tokens header_end)
+  only_script header_end = only_file (λ at. is_before (place_at tokens at) header_end)

@@ -18,7 +18,7 @@ use Rattle.gd_syntax.specs.Reading.{Read, Stops, goes, halts, looks, Loop}
 use Rattle.gd_syntax.specs.TokenReading.{kind_at, place_at, Due, OneOf, Item}
 use Rattle.gd_syntax.specs.Refusals.{refusal}
 use Rattle.gd_syntax.specs.StatementGrammar.{pats, block}
-use Rattle.gd_syntax.specs.ScriptGrammar.{in_header, script}
+use Rattle.gd_syntax.specs.ScriptGrammar.{script}
 use Rattle.gd_syntax.proofs.PatternSteps.{pattern_is}
 use Rattle.gd_syntax.proofs.StatementSteps.{block_is, block_full, class_is, unbound_is}
 use Rattle.gd_syntax.proofs.Targets.{binds-Bind, binds-Literal}
@@ -46,7 +46,7 @@ ignored = codes "warning_ignore"
 abbrev based : List Token
 based = row 1 1 (Marked m.Extends ∷ Name node ∷ Marked m.Newline ∷ Marked m.End ∷ [])
 
-one_base : script based 0 (Read (record {
+one_base : script based (spot 2 1) 0 (Read (record {
   place = spot 1 1;
   heads = h.Extends (spot 1 1) (record { place = spot 1 2; root = root.Name node; names = [] }) ∷ [];
   members = [];
@@ -60,7 +60,7 @@ abbrev before_func : List Token
 before_func = row 1 1 (Marked m.At ∷ Name ignored ∷ Marked m.Newline ∷ Marked m.Func ∷ Name f ∷ Marked m.LParen ∷ Marked m.RParen ∷ Marked m.Colon ∷ Marked m.Pass ∷ Marked m.Semicolon
     ∷ Marked m.Return ∷ Marked m.Newline ∷ Marked m.End ∷ [])
 
-ignored_by_func : script before_func 0 (Read (record {
+ignored_by_func : script before_func (spot 2 1) 0 (Read (record {
   place = spot 1 1;
   heads = [];
   members = member.Func (record {
@@ -85,7 +85,7 @@ ignored_by_func = goes (Loop.on (looks refl (goes (goes refl (goes (OneOf.found 
 abbrev before_enum : List Token
 before_enum = row 1 1 (Marked m.At ∷ Name ignored ∷ Marked m.Newline ∷ Marked m.Enum ∷ Marked m.LBrace ∷ Name f ∷ Marked m.RBrace ∷ Marked m.Newline ∷ Marked m.End ∷ [])
 
-ignored_in_head : script before_enum 0 (Read (record {
+ignored_in_head : script before_enum (spot 2 1) 0 (Read (record {
   place = spot 1 1;
   heads = h.Annotation (record { place = spot 1 1; name = ignored; args = [] }) ∷ [];
   members = member.Enum (record { place = spot 1 4; name = None; items = record { name = record { place = spot 1 6; name = f }; value = None } ∷ [] }) ∷ [];
@@ -100,7 +100,7 @@ ignored_in_head = goes (Loop.on (looks refl (goes (goes refl (goes (OneOf.found 
 abbrev exported : List Token
 exported = row 1 1 (Marked m.At ∷ Name (codes "export") ∷ Marked m.Newline ∷ Marked m.Func ∷ Name f ∷ Marked m.End ∷ [])
 
-no_exported_func : script exported 0 (Stops (record { kind = Syntax; place = spot 1 4 }))
+no_exported_func : script exported (spot 2 1) 0 (Stops (record { kind = Syntax; place = spot 1 4 }))
 unfolding kind_at place_at refusal
 no_exported_func = goes (Loop.on (looks refl (goes (goes refl (goes (OneOf.found refl) (goes (looks refl refl) (goes (looks refl refl) refl)))) refl)) (Loop.last (looks refl refl)))
     (looks refl (halts (halts (looks refl refl))))
@@ -109,7 +109,7 @@ no_exported_func = goes (Loop.on (looks refl (goes (goes refl (goes (OneOf.found
 abbrev exported_tool : List Token
 exported_tool = row 1 1 (Marked m.At ∷ Name (codes "export") ∷ Marked m.At ∷ Name (codes "tool") ∷ Marked m.Newline ∷ Marked m.End ∷ [])
 
-no_tool_behind_export : script exported_tool 0 (Stops (record { kind = Unsupported form.Annotation; place = spot 1 4 }))
+no_tool_behind_export : script exported_tool (spot 2 1) 0 (Stops (record { kind = Unsupported form.Annotation; place = spot 1 4 }))
 unfolding kind_at place_at refusal
 no_tool_behind_export = halts (Loop.on (looks refl (goes (goes refl (goes (OneOf.found refl) (goes (looks refl refl) (goes (looks refl refl) refl)))) refl))
     (Loop.stop (looks refl (halts (goes refl (halts (OneOf.missing refl)))))))
@@ -120,21 +120,19 @@ named_twice = record { kind = Marked m.ClassName; place = spot 1 1 } ∷ record 
     ∷ record { kind = Marked m.ClassName; place = spot 2 1 } ∷ record { kind = Name f; place = spot 2 12 } ∷ record { kind = Marked m.Newline; place = spot 2 13 }
     ∷ record { kind = Marked m.End; place = spot 2 13 } ∷ []
 
-one_name : script named_twice 0 (Stops (record { kind = Syntax; place = spot 2 1 }))
-unfolding kind_at place_at in_header refusal
+one_name : script named_twice (spot 2 13) 0 (Stops (record { kind = Syntax; place = spot 2 1 }))
+unfolding kind_at place_at refusal
 one_name = halts (Loop.on (looks refl (goes (goes refl (goes (looks refl (goes (OneOf.found refl) refl)) (goes (looks refl refl) (goes (Due.found refl) refl)))) refl))
     (Loop.stop (looks refl refl)))
 
--- a `class_name` behind a joined line that begins with a name is not of the header
-abbrev joined : List Token
-joined = record { kind = Marked m.Extends; place = spot 1 1 } ∷ record { kind = Name node; place = spot 2 1 } ∷ record { kind = Marked m.Newline; place = spot 2 5 }
-    ∷ record { kind = Marked m.ClassName; place = spot 3 1 } ∷ record { kind = Name f; place = spot 3 12 } ∷ record { kind = Marked m.Newline; place = spot 3 13 }
-    ∷ record { kind = Marked m.End; place = spot 3 13 } ∷ []
+-- a `class_name` behind the header
+abbrev named_late : List Token
+named_late = record { kind = Marked m.ClassName; place = spot 2 1 } ∷ record { kind = Name f; place = spot 2 12 } ∷ record { kind = Marked m.Newline; place = spot 2 13 }
+    ∷ record { kind = Marked m.End; place = spot 2 13 } ∷ []
 
-not_in_header : script joined 0 (Stops (record { kind = Syntax; place = spot 3 1 }))
-unfolding kind_at place_at in_header refusal
-not_in_header = halts (Loop.on (looks refl (goes (goes refl (goes (goes (OneOf.found refl) (goes (Loop.last (looks refl refl)) refl)) (goes (Due.found refl) refl))) refl))
-    (Loop.stop (looks refl refl)))
+not_in_header : script named_late (spot 2 1) 0 (Stops (record { kind = Syntax; place = spot 2 1 }))
+unfolding kind_at place_at refusal
+not_in_header = halts (Loop.stop (looks refl refl))
 
 -- ---- members
 
@@ -142,7 +140,7 @@ not_in_header = halts (Loop.on (looks refl (goes (goes refl (goes (goes (OneOf.f
 abbrev variadic : List Token
 variadic = row 1 1 (Marked m.Func ∷ Name f ∷ Marked m.LParen ∷ Name f ∷ Marked m.Comma ∷ Marked m.DotDot ∷ Marked m.End ∷ [])
 
-no_variadic : script variadic 0 (Stops (record { kind = Unsupported form.Variadic; place = spot 1 6 }))
+no_variadic : script variadic (spot 2 1) 0 (Stops (record { kind = Unsupported form.Variadic; place = spot 1 6 }))
 unfolding kind_at place_at refusal
 no_variadic = goes (Loop.last (looks refl refl)) (looks refl (goes refl (halts (Loop.stop (looks refl (goes refl (halts (looks refl (halts (goes (Loop.last (looks refl refl)) (looks refl (goes refl (halts
     (goes (goes (OneOf.found refl) refl) (goes (Due.found refl) (halts (halts (Loop.on (looks refl (goes (looks refl (goes refl (goes refl (goes (goes (looks refl (goes (looks refl refl) (goes (looks refl refl) refl))) refl) refl)))) (looks refl (goes refl refl))))
@@ -152,7 +150,7 @@ no_variadic = goes (Loop.last (looks refl refl)) (looks refl (goes refl (halts (
 abbrev static_var : List Token
 static_var = row 1 1 (Marked m.Static ∷ Marked m.Var ∷ Name f ∷ Marked m.Newline ∷ Marked m.End ∷ [])
 
-no_static_var : script static_var 0 (Stops (record { kind = Unsupported form.StaticVariable; place = spot 1 2 }))
+no_static_var : script static_var (spot 2 1) 0 (Stops (record { kind = Unsupported form.StaticVariable; place = spot 1 2 }))
 unfolding kind_at place_at refusal
 no_static_var = goes (Loop.last (looks refl refl)) (looks refl (goes refl (halts (Loop.stop (looks refl (goes refl (halts (looks refl (halts (goes (Loop.last (looks refl refl))
     (looks refl (goes refl (halts (Due.missing (λ e. cc e)))))))))))))))
@@ -161,7 +159,7 @@ no_static_var = goes (Loop.last (looks refl refl)) (looks refl (goes refl (halts
 abbrev nested : List Token
 nested = row 1 1 (Marked m.Class ∷ Name f ∷ Marked m.Colon ∷ Marked m.Newline ∷ Marked m.Indent ∷ Marked m.Pass ∷ Marked m.Newline ∷ Marked m.Dedent ∷ Marked m.End ∷ [])
 
-inner_class : script nested 0 (Read (record {
+inner_class : script nested (spot 2 1) 0 (Read (record {
   place = spot 1 1;
   heads = [];
   members = member.Class (spot 1 1) (record { place = spot 1 2; name = f }) None (member.Pass (spot 1 6) ∷ []) ∷ [];

@@ -1,6 +1,5 @@
--- The global name of a script: the identifier behind the first word `class_name` of its header lines, outside strings
--- and comments. Header lines are the lines from the start that are blank or begin with `#`, `@`, `extends` or
--- `class_name`.
+-- The header of a script: the lines from the start that are blank or begin with `#`, `@`, `extends` or `class_name`. Its
+-- global name is the identifier behind the first word `class_name` in these lines, outside strings and comments.
 use Rattle.std.specs.Prelude.{ℕ, zero, suc, ◌+◌, ◌-◌, Bool, true, false, not, ◌&&◌, ◌||◌, ◌==◌, nat_lt, if◌then◌else◌, List, [], ◌∷◌, length, take, drop, codes, bytes_eq, option_map, Option, Some, None}
 use Rattle.std.specs.List.{prefix_len}
 use Rattle.unicode_ident.specs.Ident.{is_xid_continue}
@@ -35,6 +34,14 @@ abbrev pub unless_keyword : Option Mark → Global → Option Global
 unless_keyword None global = Some global
 unless_keyword (Some m) global = None
 
+-- how many characters the header lines take that begin the text, where a line starts there or is under way
+unfoldable pub header_len : Bool → List ℕ → ℕ
+header_len starts [] = 0
+header_len starts (c ∷ text) = if starts && not (is_header_line (c ∷ text)) then 0 else suc (header_len (c == 10) text)
+
+abbrev pub header_text : List ℕ → List ℕ
+header_text text = take (header_len true text) text
+
 -- the name that blanks part from `class_name`, on the same line; a keyword is no name
 abbrev pub name_behind : Place → List ℕ → Option Global
 name_behind place text =
@@ -52,7 +59,6 @@ quoted_len quote count escaped (c ∷ text) =
 
 -- what stands at a place
 pub data Part : Type 0 where
-  line_end : ℕ → Part
   -- a comment, a string, a word or another character
   passed : ℕ → Part
   -- the word `class_name`
@@ -77,28 +83,32 @@ word_part word = if is_class_name word then keyword else passed (length word)
 unfoldable pub part_at : List ℕ → Part
 part_at [] = unended
 part_at (c ∷ text) =
-    if nat_lt 0 (line_end_len (c ∷ text)) then line_end (line_end_len (c ∷ text))
-    else if c == 35 then passed (suc (line_len text))
+    if c == 35 then passed (suc (line_len text))
     else if is_quote c then string_at c (c ∷ text)
     else if is_xid_continue c then word_part (word_of (c ∷ text))
     else passed 1
 
 -- The name in a text with this part in front, where `behind` gives the name in the text so many characters behind its
--- first, at the start of a line or within one.
-abbrev pub name_in : Part → Place → List ℕ → (Bool → ℕ → Option Global) → Option Global
-name_in (line_end n) place text behind = behind true (n - 1)
-name_in (passed n) place text behind = behind false (n - 1)
+-- first.
+abbrev pub name_in : Part → Place → List ℕ → (ℕ → Option Global) → Option Global
+name_in (passed n) place text behind = behind (n - 1)
 name_in keyword place text behind = name_behind (past_all place (take (length (codes "class_name")) text)) (drop (length (codes "class_name")) text)
 name_in unended place text behind = None
 
 -- the name in the text from this place on, where n characters are left of the part before
-unfoldable pub global_from : Bool → ℕ → Place → List ℕ → Option Global
-global_from starts n place [] = None
-global_from starts (suc n) place (c ∷ text) = global_from starts n (past place c) text
-global_from starts zero place (c ∷ text) =
-    if starts && not (is_header_line (c ∷ text)) then None
-    else name_in (part_at (c ∷ text)) place (c ∷ text) (λ starts n. global_from starts n (past place c) text)
+unfoldable pub name_from : ℕ → Place → List ℕ → Option Global
+name_from n place [] = None
+name_from (suc n) place (c ∷ text) = name_from n (past place c) text
+name_from zero place (c ∷ text) = name_in (part_at (c ∷ text)) place (c ∷ text) (λ n. name_from n (past place c) text)
+
+-- the place of the first character
+abbrev pub start : Place
+start = record { line = 1; column = 1 }
 
 -- the global name of a file; behind a bad byte there is no text
 abbrev pub global_of : List ℕ → Option Global
-global_of bytes = global_from true 0 (record { line = 1; column = 1 }) (text_of bytes)
+global_of bytes = name_from 0 start (header_text (text_of bytes))
+
+-- where the header of a file ends: the place just past its last character
+abbrev pub header_end_of : List ℕ → Place
+header_end_of bytes = past_all start (header_text (text_of bytes))

@@ -3,7 +3,6 @@ pub mod Parts
 pub mod Faults
 pub mod FirstTree
 pub mod FirstScript
-pub mod FirstGrammar
 pub mod FirstRun
 pub mod Tokens
 pub mod Spellings

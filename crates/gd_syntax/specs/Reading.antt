@@ -67,8 +67,5 @@ Gives found (Ok a) o = o ≡ found a
 Gives found (Err NoMemory) o = Unit {0}
 Gives found (Err (Fault f)) o = o ≡ Stops f
 
-abbrev pub HasOneAtMost : {A : Type 0} → (Outcome A → Type 0) → Type 0
-HasOneAtMost {A} reads = (o p : Outcome A) → reads o → reads p → o ≡ p
-
 abbrev pub HasOneOutcome : {A : Type 0} → (Outcome A → Type 0) → Type 0
 HasOneOutcome {A} reads = (o : Outcome A) × reads o × ((p : Outcome A) → reads p → p ≡ o)

@@ -1,5 +1,5 @@
 -- The grammar of a file: its heads, and its members.
-use Rattle.std.specs.Prelude.{ℕ, zero, suc, Bool, true, false, not, ◌&&◌, ◌||◌, ◌==◌, List, [], ◌∷◌, ◌++◌, map, Option, Some, None}
+use Rattle.std.specs.Prelude.{ℕ, Bool, true, false, not, ◌&&◌, ◌||◌, ◌==◌, nat_lt, List, [], ◌∷◌, ◌++◌, map, Option, Some, None}
 use Rattle.std.specs.List.{list_any}
 use Rattle.gd_syntax.specs.declared.fault.Place.{Place}
 use Rattle.gd_syntax.specs.declared.token.Token.{Token}
@@ -63,21 +63,11 @@ is_annotated (Some m.Static) = true
 is_annotated (Some m.Func) = true
 is_annotated _ = false
 
--- whether a header line begins with this token, which is a line's end where the line is blank
-abbrev pub is_header_mark : ℕ → Option Mark → Bool
-is_header_mark column (Some m.At) = column == 1
-is_header_mark column (Some m.Extends) = column == 1
-is_header_mark column (Some m.ClassName) = column == 1
-is_header_mark column (Some m.Newline) = true
-is_header_mark column _ = false
+-- whether a place stands before another
+abbrev pub is_before : Place → Place → Bool
+is_before a b = nat_lt a.line b.line || (a.line == b.line && nat_lt a.column b.column)
 
 module _ (tokens : List Token) where
-  -- whether each line up to this token is a header line
-  unfoldable pub in_header : ℕ → Bool
-  in_header zero = is_header_mark (place_at tokens 0).column (mark_at tokens 0)
-  in_header (suc n) = in_header n
-      && (((place_at tokens n).line == (place_at tokens (suc n)).line) || is_header_mark (place_at tokens (suc n)).column (mark_at tokens (suc n)))
-
   -- `found` tells whether the header has the `class_name` at a place in the tokens
   module _ (found : ℕ → Bool) where
     -- ---- heads
@@ -142,6 +132,6 @@ module _ (tokens : List Token) where
       sofar ← Loop head ([], [])
       Look (λ to. is_annotated (mark_at tokens to)) (file_by (place_at tokens at) sofar)) at
 
-  -- a file whose tokens alone tell its header
-  abbrev pub script : Reading Script
-  script = file in_header
+  -- a file whose header lines end at this place
+  abbrev pub script : Place → Reading Script
+  script header_end = file (λ at. is_before (place_at tokens at) header_end)

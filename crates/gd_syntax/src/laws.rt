@@ -1,5 +1,6 @@
 // Laws of the definitions.
 ghost use Rattle.std.specs.Prelude.{ℕ, List};
+ghost use Rattle.gd_syntax.specs.declared.fault.Place.{Place};
 ghost use Rattle.gd_syntax.specs.declared.token.Token.{Token};
 ghost use Rattle.gd_syntax.specs.ExprGrammar.{expression};
 ghost use Rattle.gd_syntax.specs.PatternGrammar.{pattern};
@@ -19,5 +20,5 @@ pub fn one_outcome()
     ensures expressions { (tokens : List Token) (room level at : ℕ) → HasOneOutcome (expression tokens room level at) }
     ensures blocks { (tokens : List Token) (room at : ℕ) → HasOneOutcome (block tokens room at) }
     ensures classes { (tokens : List Token) (room classes at : ℕ) → HasOneOutcome (class_block tokens room classes at) }
-    ensures script { (tokens : List Token) (at : ℕ) → HasOneOutcome (script tokens at) }
+    ensures script { (tokens : List Token) (header_end : Place) (at : ℕ) → HasOneOutcome (script tokens header_end at) }
 {}

@@ -2,6 +2,7 @@ pub mod Scans
 pub mod StringParts
 pub mod Pieces
 pub mod Lists
+pub mod Ended
 pub mod Files
 pub mod Longest
 pub mod LongestSigns

@@ -12,7 +12,8 @@ use Rattle.gd_syntax.specs.declared.token.Mark.{Mark}
 use Rattle.gd_syntax.specs.declared.token.TheConstants.{SIGNS}
 use Rattle.gd_syntax.specs.declared.token.Kind.TheVariants.{Mark as Marked}
 use Rattle.gd_syntax.specs.Tokens.{mark_text}
-use Rattle.gd_syntax.specs.Spellings.{repeats, spelled, sign_at, or_else, token}
+use Rattle.gd_syntax.specs.Spellings.{begins, repeats, spelled, sign_at, or_else, token}
+use Rattle.gd_tokens.specs.FoundParts.{begins_with}
 
 pub sign_some : (n : ℕ) (text : List ℕ) (m : Mark) → 0 < n → spelled SIGNS (take n text) ≡ Some m → sign_at n text ≡ token (Marked m) (length (mark_text m))
 unfolding sign_at
@@ -81,3 +82,24 @@ spelled_is (x ∷ marks) text m e = spelled_turn x marks text m (bytes_eq (mark_
 
 pub front_fits : (n : ℕ) (text word : List ℕ) → word ≡ take n text → length word ≤ length text
 front_fits n text word is = omega (arith, ap length is, length-take n text)
+
+-- a sign that begins otherwise is not spelled so
+other_first : (word : List ℕ) (c : ℕ) (text : List ℕ) → begins (λ d. d == c) word ≡ false → bytes_eq word (c ∷ text) ≡ false
+other_first [] c text other = refl
+other_first (d ∷ word) c text other = rw other refl
+
+kept_turn : (x : Mark) (marks : List Mark) (c : ℕ) (text : List ℕ) (b : Bool) → begins_with c x ≡ b → spelled (filter (begins_with c) marks) (c ∷ text) ≡ spelled marks (c ∷ text) → spelled (cond b (x ∷ filter (begins_with c) marks) (filter (begins_with c) marks)) (c ∷ text) ≡ spelled (x ∷ marks) (c ∷ text)
+unfolding spelled
+kept_turn x marks c text true is rest = rw rest refl
+kept_turn x marks c text false is rest = rw (other_first (mark_text x) c text is) rest
+
+-- the signs that begin as the text does are those that may be spelled so
+pub kept : (marks : List Mark) (c : ℕ) (text : List ℕ) → spelled (filter (begins_with c) marks) (c ∷ text) ≡ spelled marks (c ∷ text)
+unfolding spelled
+kept [] c text = refl
+kept (x ∷ marks) c text = kept_turn x marks c text (begins_with c x) refl (kept marks c text)
+
+pub kept_front : (signs : List Mark) (text : List ℕ) (c n : ℕ) → 0 < n → 1 ≤ length text → c ≡ get_or text 0 c → signs ≡ filter (begins_with c) SIGNS → spelled signs (take n text) ≡ spelled SIGNS (take n text)
+kept_front signs text c zero some one first is = absurd (omega arith)
+kept_front signs [] c (suc n) some one first is = absurd (omega arith)
+kept_front signs (d ∷ text) c (suc n) some one first is = ap (λ s. spelled s (d ∷ take n text)) (is ∙ ap (λ e. filter (begins_with e) SIGNS) first) ∙ kept SIGNS d (take n text)

@@ -1,5 +1,7 @@
 -- What the scanner's answers stand for.
-use Rattle.std.specs.Prelude.{ℕ}
+use Rattle.std.specs.Prelude.{ℕ, Bool, ◌==◌}
+use Rattle.gd_syntax.specs.declared.token.Mark.{Mark}
+use Rattle.gd_syntax.specs.Tokens.{mark_text}
 use Rattle.gd_syntax.specs.Spellings as spec
 use Rattle.gd_tokens.specs.declared.found.Found.{Found}
 use Rattle.gd_tokens.specs.declared.found.Found.TheVariants.{Space, Gap, LineEnd, Token, Wrong, Unended}
@@ -20,3 +22,7 @@ found_size (LineEnd n) = n
 found_size (Token kind n) = n
 found_size (Wrong kind n) = n
 found_size Unended = 0
+
+-- whether the token's spelling begins with this character
+abbrev pub begins_with : ℕ → Mark → Bool
+begins_with c m = spec.begins (λ d. d == c) (mark_text m)

@@ -4,6 +4,7 @@ use Rattle.gd_syntax.specs.declared.fault.SolveError.{SolveError}
 use Rattle.gd_syntax.specs.declared.fault.SolveError.TheVariants.{Fault, NoMemory}
 use Rattle.gd_syntax.specs.declared.token.Token.{Token}
 use Rattle.gd_syntax.specs.Layout.{Answer, front}
+use Rattle.gd_syntax.specs.TokenReading.{IsEnded}
 use Rattle.gd_tokens.specs.declared.lines.Ending.{Ending}
 use Rattle.gd_tokens.specs.declared.lines.Ending.TheVariants.{Ends}
 
@@ -20,3 +21,8 @@ abbrev pub EndsLine : Ending → Result Bool SolveError → Type 0
 EndsLine (Ends place) result = Unit {0}
 EndsLine ending (Ok true) = ⊥
 EndsLine ending result = Unit {0}
+
+-- where no line follows, the list is whole
+abbrev pub EndsList : Result Bool SolveError → List Token → Type 0
+EndsList (Ok false) tokens = IsEnded tokens
+EndsList _ tokens = Unit {0}

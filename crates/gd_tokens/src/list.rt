@@ -2,9 +2,10 @@
 ghost use Rattle.std.specs.Prelude.{◌≡◌, ℕ, ◌++◌, ◌∷◌, [], Bool, length, replicate, OnOk};
 ghost use Rattle.gd_syntax.specs.declared.token.Mark.TheVariants.{Dedent};
 ghost use Rattle.gd_syntax.specs.Layout.{Answer, Layout as LaidOut, begins_badly, closing, ends_in_colon, first_place, indent_fault, is_bad_token, is_colon, laid_onto, line_tail, mark_at, marks_at, newline, same_place};
+ghost use Rattle.gd_syntax.specs.TokenReading.{IsEnded};
 ghost use Rattle.gd_tokens.specs.LayoutParts.{layout_of, marks_of};
 ghost use Rattle.gd_tokens.specs.LineParts.{ending_of, line_of};
-ghost use Rattle.gd_tokens.specs.ListParts.{EndsLine, IsLaid};
+ghost use Rattle.gd_tokens.specs.ListParts.{EndsLine, EndsList, IsLaid};
 
 use crate::layout::{Blocks, Layout, LayoutError};
 use crate::lines::{Ending, Line};
@@ -140,7 +141,8 @@ fn push_newline(out: &mut Vec<Token>, nothing: bool, place: Place) -> Result<(),
 
 /// Closes the open blocks at the end of the text.
 fn push_end(out: &mut Vec<Token>, n: usize, place: Place) -> Result<(), AllocError>
-    ensures { OnOk result (out.new.items ≡ out.old.items ++ closing place n) }
+    ensures items { OnOk result (out.new.items ≡ out.old.items ++ closing place n) }
+    ensures ended { OnOk result (IsEnded out.new.items) }
 {
     push_dedents(out, n, place)?;
     push_mark(out, Mark::End, place)
@@ -155,6 +157,7 @@ fn end_line(
 ) -> Result<bool, SolveError>
     ensures laid { (more : Answer) → IsLaid out.old.items (line_tail nothing (layout_of layout.now) (ending_of ending) more) result out.new.items more }
     ensures follows { EndsLine ending result }
+    ensures ended { EndsList result out.new.items }
 {
     match ending {
         Ending::Ends(place) => {
@@ -178,6 +181,7 @@ fn end_line(
 pub fn add_line(out: &mut Vec<Token>, layout: &mut Layout, line: Line) -> Result<bool, SolveError>
     ensures laid { (behind : LaidOut → Answer) → IsLaid out.old.items (laid_onto (first_place line.tokens.items (ending_of line.ending)) (layout_of layout.old) (line_of line) behind) result out.new.items (behind (layout_of layout.new)) }
     ensures follows { EndsLine line.ending result }
+    ensures ended { EndsList result out.new.items }
 {
     let Some(first) = first_place(&line) else {
         return end_line(out, true, layout, line.ending);

@@ -1,7 +1,9 @@
 // Tokens that have one spelling.
-ghost use Rattle.std.specs.Prelude.{◌≡◌, ◌≤◌, bytes_eq, length, take};
+ghost use Rattle.std.specs.Prelude.{◌≡◌, ◌≤◌, ◌<◌, ℕ, bytes_eq, length, take, IfSome};
+ghost use Rattle.std.specs.List.{filter};
 ghost use Rattle.gd_syntax.specs.Spellings.{spelled, sign_at};
-ghost use Rattle.gd_tokens.specs.FoundParts.{found_of, found_size};
+ghost use Rattle.gd_syntax.specs.declared.token.TheConstants.{SIGNS};
+ghost use Rattle.gd_tokens.specs.FoundParts.{found_of, found_size, begins_with};
 
 use crate::found::Found;
 use gd_syntax::{FaultKind, Kind, Mark, SIGNS};
@@ -47,15 +49,74 @@ fn front(text: &[char], n: usize) -> &[char]
     &text[..text.len().min(n)]
 }
 
+/// The signs that begin with this character, if there are any.
+fn signs_from(c: char) -> Option<&'static [Mark]>
+    ensures { IfSome result (λ signs. signs.now ≡ filter (begins_with c) SIGNS) }
+{
+    let signs: &'static [Mark] = match c {
+        '+' => &[Mark::Plus, Mark::PlusAssign],
+        '-' => &[Mark::Minus, Mark::MinusAssign, Mark::Arrow],
+        '*' => &[Mark::Star, Mark::Power, Mark::StarAssign, Mark::PowerAssign],
+        '/' => &[Mark::Slash, Mark::SlashAssign],
+        '%' => &[Mark::Percent, Mark::PercentAssign],
+        '<' => &[
+            Mark::ShiftLeft,
+            Mark::Less,
+            Mark::LessEqual,
+            Mark::ShiftLeftAssign,
+        ],
+        '>' => &[
+            Mark::ShiftRight,
+            Mark::Greater,
+            Mark::GreaterEqual,
+            Mark::ShiftRightAssign,
+        ],
+        '&' => &[Mark::Amp, Mark::AmpAmp, Mark::AmpAssign],
+        '|' => &[Mark::Bar, Mark::BarBar, Mark::BarAssign],
+        '^' => &[Mark::Caret, Mark::CaretAssign],
+        '~' => &[Mark::Tilde],
+        '!' => &[Mark::Bang, Mark::Differ],
+        '=' => &[Mark::Equal, Mark::Assign],
+        ':' => &[Mark::ColonAssign, Mark::Colon],
+        ';' => &[Mark::Semicolon],
+        ',' => &[Mark::Comma],
+        '.' => &[Mark::Dot, Mark::DotDot],
+        '(' => &[Mark::LParen],
+        ')' => &[Mark::RParen],
+        '[' => &[Mark::LBracket],
+        ']' => &[Mark::RBracket],
+        '{' => &[Mark::LBrace],
+        '}' => &[Mark::RBrace],
+        '@' => &[Mark::At],
+        '$' => &[Mark::Dollar],
+        _ => return None,
+    };
+    Some(signs)
+}
+
+/// Those of the signs that may begin the text.
+fn signs_for(text: &[char]) -> &'static [Mark]
+    ensures { (n : ℕ) → 0 < n → spelled result.now (take n text.now) ≡ spelled SIGNS (take n text.now) }
+{
+    let [c, ..] = text else {
+        return &SIGNS;
+    };
+    match signs_from(*c) {
+        Some(signs) => signs,
+        None => &SIGNS,
+    }
+}
+
 /// The longest sign that begins the text.
 #[tactic(auto, unfolding(gd_syntax::specs::Spellings::sign_at))]
 pub fn sign(text: &[char]) -> Found
     ensures value { found_of result ≡ sign_at 3 text.now }
     ensures bound { found_size result ≤ length text.now }
 {
+    let signs = signs_for(text);
     let mut n = LONGEST_SIGN;
     while n > 0 {
-        if let Some(mark) = spelled_by(&SIGNS, front(text, n)) {
+        if let Some(mark) = spelled_by(signs, front(text, n)) {
             return Found::Token(Kind::Mark(mark), mark.as_str().len());
         }
         n -= 1;

@@ -3,6 +3,7 @@ ghost use Rattle.std.specs.Prelude.{◌≡◌, ◌≤◌, ◌^◌, ◌==◌, if�
 ghost use Rattle.std.specs.Str.{chars};
 ghost use Rattle.std.specs.Str.Lossy.{utf8_valid_len};
 ghost use Rattle.gd_syntax.specs.Spellings.{begins};
+ghost use Rattle.gd_syntax.specs.TokenReading.{IsEnded};
 ghost use Rattle.gd_syntax.specs.Layout.{Answer, IsAnswer, is_unclosed, or_bad_bytes, tokens_in, tokens_in_bytes};
 
 use crate::layout::Layout;
@@ -48,7 +49,8 @@ fn without_mark(text: &[char]) -> &[char]
 /// The tokens of a text.
 fn list_tokens(alloc: Global, text: &[char]) -> Result<Vec<Token>, SolveError>
     requires { length text.now ≤ 2 ^ 30 }
-    ensures { IsAnswer result (tokens_in text.now) }
+    ensures answer { IsAnswer result (tokens_in text.now) }
+    ensures ended { IfOk result (λ tokens. IsEnded tokens.items) }
 {
     let mut reader = Reader::new(text);
     let mut layout = Layout::new(alloc);
@@ -77,7 +79,8 @@ fn with_bad_bytes(
     found: Result<Vec<Token>, SolveError>,
     place: Place,
 ) -> Result<Vec<Token>, SolveError>
-    ensures { (answer : Answer) → IsAnswer found answer → IsAnswer result (or_bad_bytes place answer) }
+    ensures answer { (answer : Answer) → IsAnswer found answer → IsAnswer result (or_bad_bytes place answer) }
+    ensures none { IfOk result (λ _. ⊥) }
 {
     let bad = Err(SolveError::Fault(LoadFault {
         kind: FaultKind::BadBytes,
@@ -103,7 +106,8 @@ fn with_bad_bytes(
 #[tactic(auto, unfolding(gd_syntax::specs::Layout::tokens_in_bytes))]
 pub fn tokens(alloc: Global, text: &[u8]) -> Result<Vec<Token>, SolveError>
     requires { length text.now ≤ 1048576 }
-    ensures { IsAnswer result (tokens_in_bytes text.now) }
+    ensures answer { IsAnswer result (tokens_in_bytes text.now) }
+    ensures ended { IfOk result (λ tokens. IsEnded tokens.items) }
 {
     let valid = valid_front(text);
     let characters = characters(alloc, valid)?;

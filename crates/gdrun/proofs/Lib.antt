@@ -1,4 +1,6 @@
+mod Chains
 mod Endings
+mod Files
 mod Found
 mod Texts
 mod Whole

@@ -4,10 +4,10 @@ use Rattle.std.specs.declared.option.Option.{Option}
 use Rattle.std.specs.FinMap.{find}
 use Rattle.host_io.specs.Paths.{path_order}
 use Rattle.host_io.proofs.Written.{took_nothing}
-use Rattle.gd_syntax.specs.declared.fault.FaultKind.{FaultKind}
 use Rattle.gd_syntax.specs.declared.fault.SolveError.{SolveError}
 use Rattle.gd_syntax.specs.declared.fault.SolveError.TheVariants.{Fault, NoMemory}
-use Rattle.gd_syntax.specs.FirstGrammar.{unbuilt, IsParsed}
+use Rattle.gdrun.specs.FileReading.{faulty, IsRead}
+use Rattle.gdrun.proofs.Files.{some_file_reading, same_file_reading}
 use Rattle.gdrun.specs.declared.status.Status.{Status}
 use Rattle.gdrun.specs.declared.stop.Stop.{Stop}
 use Rattle.gdrun.specs.declared.stop.Stop.TheVariants.{NoMemory as StopMemory}
@@ -16,32 +16,29 @@ use Rattle.project_run.proofs.Whole.{some_reading}
 use Rattle.host_io.specs.Causes.{Calls}
 use Rattle.host_io.specs.Folder.{Files}
 use Rattle.host_io.specs.declared.folder.Faults.{Faults}
-use Rattle.gd_parser.proofs.FirstLaw.{some_first_reading, same_first_reading}
 use Rattle.project_run.specs.Image.{Reading, image_read, folder_fault, folder_limit, other_files}
 use Rattle.gdrun.specs.Words.{Command, no_command, script_command, command_of}
 use Rattle.gdrun.specs.Outcome.{Outcome, refused, outcome_of_script, IsOutcomeOfText, IsOutcomeOfFile, IsOutcomeOfScript, IsOutcomeOfCommand, IsOutcome}
 
 pub some_text : (path : List ℕ) (steps : ℕ) (text : List ℕ) → (outcome : Outcome) × IsOutcomeOfText path steps text outcome
 some_text path steps text =
-    let some = some_first_reading text in
+    let some = some_file_reading text in
     (outcome_of_script path steps some.0, record { reading = some.0; read = some.1; is = refl })
 
 -- a text that is refused has the report for its outcome
-pub refused_text : (path : List ℕ) (steps : ℕ) (text : List ℕ) (error : SolveError) (old new : Option (List ℕ)) (r : Result Status Stop) → IsParsed text (Err error) → HasRefused path error old new r → HasWrittenSome (IsOutcomeOfText path steps text) old new r
-refused_text path steps text (Fault fault) old new r parsed wrote =
-    let unbuilt_kind = ap (λ (kind : FaultKind). refused path (record { kind = kind; place = fault.place })) parsed.0 in
-    record {
-      outcome = refused path fault;
-      means = record { reading = unbuilt fault.place.line fault.place.column; read = parsed.1; is = unbuilt_kind };
-      wrote = wrote;
-    }
-refused_text path steps text NoMemory old new r parsed wrote =
+pub refused_text : (path : List ℕ) (steps : ℕ) (text : List ℕ) (error : SolveError) (old new : Option (List ℕ)) (r : Result Status Stop) → IsRead text (Err error) → HasRefused path error old new r → HasWrittenSome (IsOutcomeOfText path steps text) old new r
+refused_text path steps text (Fault fault) old new r read wrote = record {
+  outcome = refused path fault;
+  means = record { reading = faulty fault; read = read; is = refl };
+  wrote = wrote;
+}
+refused_text path steps text NoMemory old new r read wrote =
     let some = some_text path steps text in
     record { outcome = some.0; means = some.1; wrote = rw (wrote.0, wrote.1) (took_nothing old some.0.text) }
 
 same_text : (path : List ℕ) (steps : ℕ) (text : List ℕ) (a b : Outcome) → IsOutcomeOfText path steps text a → IsOutcomeOfText path steps text b → a ≡ b
 same_text path steps text a b left right =
-    left.is ∙ ap (outcome_of_script path steps) (same_first_reading text left.reading right.reading left.read right.read) ∙ sym right.is
+    left.is ∙ ap (outcome_of_script path steps) (same_file_reading text left.reading right.reading left.read right.read) ∙ sym right.is
 
 some_file : (path : List ℕ) (steps : ℕ) (file : Option (Option (List ℕ))) → (outcome : Outcome) × IsOutcomeOfFile path steps file outcome
 some_file path steps None = (_, refl)

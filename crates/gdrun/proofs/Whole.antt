@@ -9,7 +9,7 @@ use Rattle.host_io.specs.Folder.{Files}
 use Rattle.host_io.specs.Paths.{path_order}
 use Rattle.host_io.specs.declared.folder.Faults.{Faults}
 use Rattle.host_io.proofs.Written.{took_nothing, took_all}
-use Rattle.gd_syntax.specs.FirstGrammar.{FirstReading, taken, unbuilt}
+use Rattle.gdrun.specs.FileReading.{FileReading, taken, faulty}
 use Rattle.gd_syntax.specs.FirstRun.{RunEnd, ended, spent, run_of}
 use Rattle.project_run.specs.Image.{Reading, image_read, folder_fault, folder_limit, other_files, reading_of}
 use Rattle.project_run.proofs.Whole.{some_reading}
@@ -36,9 +36,9 @@ of_end : (asked : Command) (reading : Reading) (end : RunEnd) → Tells asked re
 of_end asked reading (ended steps left) = tt
 of_end asked reading (spent line steps) = tt
 
-of_script : (asked : Command) (reading : Reading) (path : List ℕ) (steps : ℕ) (read : FirstReading) → Tells asked reading (outcome_of_script path steps read).status
+of_script : (asked : Command) (reading : Reading) (path : List ℕ) (steps : ℕ) (read : FileReading) → Tells asked reading (outcome_of_script path steps read).status
 of_script asked reading path steps (taken script) = of_end asked reading (run_of script steps).end
-of_script asked reading path steps (unbuilt line column) = tt
+of_script asked reading path steps (faulty fault) = tt
 
 of_file : (asked : Command) (reading : Reading) (path : List ℕ) (steps : ℕ) (file : Option (Option (List ℕ))) (outcome : Outcome) → IsOutcomeOfFile path steps file outcome → Tells asked reading outcome.status
 of_file asked reading path steps None outcome is = rw is tt

@@ -4,3 +4,6 @@ pub mod ScriptCommand
 pub mod Outcome
 pub mod Run
 pub mod Told
+pub mod Taken
+pub mod Single
+pub mod FileReading

@@ -13,11 +13,11 @@ use Rattle.host_io.specs.Paths.{path_order}
 use Rattle.gd_syntax.specs.declared.fault.LoadFault.{LoadFault}
 use Rattle.gd_syntax.specs.declared.fault.FaultKind.TheVariants.{Unreadable, Unbuilt}
 use Rattle.gd_syntax.specs.Faults.{kind_text}
-use Rattle.gd_syntax.specs.FirstGrammar.{FirstReading, taken, unbuilt, IsFirstReading}
 use Rattle.gd_syntax.specs.FirstRun.{Run, RunEnd, ended, spent, run_of, end_line}
 use Rattle.project_run.specs.Image.{Reading, image_read, folder_fault, folder_limit, other_files}
 use Rattle.gdrun.specs.declared.status.Status.{Status}
 use Rattle.gdrun.specs.declared.status.Status.TheVariants.{Done, Refused, Usage, StepsSpent, FolderFault, FolderLimit}
+use Rattle.gdrun.specs.FileReading.{FileReading, taken, faulty, IsFileReading}
 use Rattle.gdrun.specs.Words.{Command, no_command, script_command, command_of}
 
 -- the text that is written, and the status
@@ -55,14 +55,14 @@ abbrev pub outcome_of_run : List ℕ → Run → Outcome
 outcome_of_run path run = record { text = run.text ++ end_line path run.end; status = status_of_end run.end }
 
 -- a script that was read so, with an allowance of steps
-abbrev pub outcome_of_script : List ℕ → ℕ → FirstReading → Outcome
+abbrev pub outcome_of_script : List ℕ → ℕ → FileReading → Outcome
 outcome_of_script path steps (taken script) = outcome_of_run path (run_of script steps)
-outcome_of_script path steps (unbuilt line column) = refused path (record { kind = Unbuilt; place = record { line = line; column = column } })
+outcome_of_script path steps (faulty fault) = refused path fault
 
 -- the outcome of the text of a script
 pub record IsOutcomeOfText (path : List ℕ) (steps : ℕ) (text : List ℕ) (outcome : Outcome) : Type 0 where
-  pub reading : FirstReading
-  pub read : IsFirstReading text reading
+  pub reading : FileReading
+  pub read : IsFileReading text reading
   pub is : outcome ≡ outcome_of_script path steps reading
 
 -- the outcome of a requested script, by what the image has at its path

@@ -2,11 +2,14 @@
 #![tactic(auto)]
 
 mod command;
+mod file;
 #[cfg(test)]
 mod rows;
 mod run;
+mod single;
 mod status;
 mod stop;
+mod taken;
 mod top;
 mod words;
 mod write;

@@ -127,26 +127,129 @@ fn lines_run_in_order(rt: HostRuntime) -> Result<(), Fail> {
     Ok(())
 }
 
+/// The first argument of a print line stands at column 8.
+fn print_line(alloc: Global, piece: &str, count: usize, last: &str) -> Result<String, AllocError> {
+    let mut text = String::from_str(alloc, "func _init():\n\tprint(")?;
+    for _ in 0..count {
+        text.push_str(piece)?;
+    }
+    text.push_str(last)?;
+    text.push_str(")\n")?;
+    Ok(text)
+}
+
+/// Compares the report of a script that is refused with this line.
+fn expect_refused(
+    rt: &(impl Abort + AllocGlobal),
+    script: &str,
+    line: &str,
+) -> Result<(), AllocError> {
+    let mut text = String::from_str(rt.alloc(), "refused res://m.gd: res://m.gd\nres://m.gd:")?;
+    text.push_str(line)?;
+    text.push('\n')?;
+    let files = [("res://m.gd", script)];
+    let row = without_faults("script . res://m.gd", &files);
+    expect(rt, row, text.as_str(), Status::Refused)
+}
+
+#[test]
+fn faults_of_scripts(rt: HostRuntime) -> Result<(), Fail> {
+    for (script, line) in [
+        (" func _init():\n", "1:2 BadIndent"),
+        ("func _init():\n", "2:1 Syntax"),
+        ("func _init():\r\n", "2:1 Syntax"),
+        (
+            "func _init():\n\tif true:\n\t\tpass\n    print(1)\n",
+            "4:1 MixedIndent",
+        ),
+        ("func _init():\n\tprint(\"abc", "2:8 Unclosed"),
+        ("func _init():\n\tprint(1.5)\n", "2:8 Unsupported(float)"),
+        ("var x = (1,\n", "1:9 Unclosed"),
+        (
+            "func _init():\n\tprint(9223372036854775808)\n",
+            "2:8 NumberTooLarge",
+        ),
+        // No member is read inside an expression.
+        ("var a = (\nvar b = 2)\n", "2:1 Syntax"),
+        (
+            "var a = [1,\nfunc f():\n\tpass]\n",
+            "2:1 Unsupported(lambda)",
+        ),
+        ("var a = 1 +\nclass B:\n\tpass\n", "1:12 Syntax"),
+        // A fault behind what is not taken comes first.
+        ("pass\nvar var\n", "2:5 Syntax"),
+        // A comment that is indented ends the header, and so does a line inside a string.
+        ("  # c\nclass_name A\n", "2:1 Syntax"),
+        ("@icon(\"a\nb\")\nclass_name A\n", "3:1 Syntax"),
+    ] {
+        expect_refused(&rt, script, line)?;
+    }
+    Ok(())
+}
+
 #[test]
 fn places_of_what_is_not_taken(rt: HostRuntime) -> Result<(), Fail> {
-    for (script, place) in [
-        ("", "1:1"),
-        (" func _init():\n", "1:1"),
-        ("func _init():\r\n", "1:14"),
-        ("func _init():\n", "2:1"),
-        ("func _init():\n    print(1)\n", "2:1"),
-        ("func _init():\n\tprint(1.5)\n", "2:9"),
-        ("func _init():\n\tprint(\u{e9})\n", "2:8"),
-        ("func _init():\n\tprint(1 + 2)", "2:14"),
-        ("func _init():\n\tprint(1)\n\n", "3:1"),
-        ("func _init():\n\tprint(1)\n\tprint(\"a", "3:10"),
+    for (script, line) in [
+        ("", "1:1 Unbuilt"),
+        ("pass\n", "1:1 Unbuilt"),
+        ("@tool\nfunc _init():\n\tprint(1)\n", "1:1 Unbuilt"),
+        ("extends Node\nfunc _init():\n\tprint(1)\n", "1:1 Unbuilt"),
+        ("# c\nclass_name A\n", "2:1 Unbuilt"),
+        ("static func _init():\n\tprint(1)\n", "1:1 Unbuilt"),
+        ("func f():\n\tprint(1)\n", "1:6 Unbuilt"),
+        ("func _init(a):\n\tprint(1)\n", "1:12 Unbuilt"),
+        ("func _init() -> void:\n\tprint(1)\n", "1:14 Unbuilt"),
+        ("func _init():\n\tpass\n", "2:2 Unbuilt"),
+        ("func _init():\n\tprint()\n", "2:8 Unbuilt"),
+        ("func _init():\n\tprint(\u{e9})\n", "2:8 Unbuilt"),
+        ("func _init():\n\tprint(-1)\n", "2:8 Unbuilt"),
+        ("func _init():\n\tprint((1))\n", "2:8 Unbuilt"),
+        ("func _init():\n\tprint(\"a\" + \"b\")\n", "2:12 Unbuilt"),
+        ("func _init():\n\tprint(1 / 2)\n", "2:10 Unbuilt"),
+        ("func _init():\n\tprint(1) + 2\n", "2:11 Unbuilt"),
+        ("func _init():\n\tprint(1); pass\n", "2:12 Unbuilt"),
+        (
+            "func _init():\n\tprint(1)\nfunc f():\n\tpass\n",
+            "3:1 Unbuilt",
+        ),
     ] {
-        let mut text = String::from_str(rt.alloc(), "refused res://m.gd: res://m.gd\nres://m.gd:")?;
-        text.push_str(place)?;
-        text.push_str(" Unbuilt\n")?;
+        expect_refused(&rt, script, line)?;
+    }
+    let arguments = print_line(rt.alloc(), "0,", 16, "0")?;
+    expect_refused(&rt, arguments.as_str(), "2:40 Unbuilt")?;
+    let operators = print_line(rt.alloc(), "1+", 65, "1")?;
+    expect_refused(&rt, operators.as_str(), "2:137 Unbuilt")?;
+    Ok(())
+}
+
+#[test]
+fn what_is_taken(rt: HostRuntime) -> Result<(), Fail> {
+    let arguments = print_line(rt.alloc(), "0,", 16, "")?;
+    let operators = print_line(rt.alloc(), "1+", 64, "1")?;
+    for (script, text) in [
+        (
+            "func _init():\n\tprint(9223372036854775807 + 1)\n",
+            "-9223372036854775808\ndone steps 2 left 0\n",
+        ),
+        ("func _init():\n    print(1)\n", "1\ndone steps 2 left 0\n"),
+        ("func _init():\n\tprint(1 + 2)", "3\ndone steps 2 left 0\n"),
+        (
+            "\n# c\nfunc _init(): print(1); print(0x10 - 2 * 3);\n\n",
+            "1\n10\ndone steps 3 left 0\n",
+        ),
+        (
+            "func _init():\n\tprint(1,\n'\\u00e9',)\n\n\tprint(2)\n",
+            "1\u{e9}\n2\ndone steps 3 left 0\n",
+        ),
+        (
+            arguments.as_str(),
+            "0000000000000000\ndone steps 2 left 0\n",
+        ),
+        (operators.as_str(), "65\ndone steps 2 left 0\n"),
+    ] {
         let files = [("res://m.gd", script)];
         let row = without_faults("script . res://m.gd", &files);
-        expect(&rt, row, text.as_str(), Status::Refused)?;
+        expect(&rt, row, text, Status::Done)?;
     }
     Ok(())
 }
@@ -187,7 +290,7 @@ fn limits_of_a_folder(rt: HostRuntime) -> Result<(), Fail> {
     for (length, text, status) in [
         (
             1_048_576,
-            "refused res://m.gd: res://m.gd\nres://m.gd:1:1 Unbuilt\n",
+            "refused res://m.gd: res://m.gd\nres://m.gd:1:1 Syntax\n",
             Status::Refused,
         ),
         (1_048_577, "folder limit\n", Status::FolderLimit),
@@ -328,10 +431,10 @@ fn writes_that_fail(rt: HostRuntime) -> Result<(), Fail> {
 }
 
 /// The status of a script's run over one file, and what was written.
-fn run_one(alloc: Global, text: &str) -> Result<(Status, MemorySink), AllocError> {
+fn run_one(alloc: Global, text: &[u8]) -> Result<(Status, MemorySink), AllocError> {
     let words = words_of(alloc, "script . res://m.gd")?;
     let path = String::from_str(alloc, "res://m.gd")?;
-    let files = vec![in alloc; (path, text.as_bytes().to_vec(alloc)?)]?;
+    let files = vec![in alloc; (path, text.to_vec(alloc)?)]?;
     let mut out = MemorySink::new(alloc, 1_000, Vec::new(alloc))?;
     if !MemoryFolder::can_hold(alloc, &files)? {
         return Err(AllocError);
@@ -339,6 +442,52 @@ fn run_one(alloc: Global, text: &str) -> Result<(Status, MemorySink), AllocError
     let mut folder = MemoryFolder::new(files, Vec::new(alloc));
     let status = run_in_memory(alloc, &words, &mut folder, &mut out);
     Ok((status, out))
+}
+
+/// A script with every kind of head, member, statement and pattern.
+const ALL_FORMS: &str = "@tool
+class_name A extends \"b.gd\".C
+@export var a: int = 1
+@onready var b := $B/C
+const D = [1, {\"k\": 2}, {l = 3}]
+enum E {F, G = 2}
+signal s(x, y: int)
+class H extends Node:
+\tfunc j(k, l = 1) -> void: pass
+@warning_ignore(\"x\") static func m(n, o := 2):
+\tvar p = not n in [1] and -n is int
+\tif p: return 1 if o else 2
+\telif n == 0x1F:
+\t\tpass
+\telse:
+\t\tassert(n, 'm')
+\tfor q: int in range(3):
+\t\tif q: break
+\t\tcontinue
+\twhile a: a += 1; a <<= 2
+\tmatch n:
+\t\t1, -2: pass
+\t\t[var r, ..]: pass
+\t\t{\"k\": var t, ..}: pass
+\t\tE.F: pass
+\t\t_: pass
+\tself.a[0].b = super.m(preload(\"c\"), load(\"d\")) as int
+";
+
+/// Each front of a script is read or refused.
+#[test]
+fn fronts_of_a_script(rt: HostRuntime) -> Result<(), Fail> {
+    let all = ALL_FORMS.as_bytes();
+    for end in 0..all.len() {
+        let (status, out) = run_one(rt.alloc(), &all[..end])?;
+        assert_eq!(rt; status, Status::Refused);
+        assert!(rt;
+            out.taken()
+                .starts_with(b"refused res://m.gd: res://m.gd\nres://m.gd:")
+        );
+    }
+    expect_refused(&rt, ALL_FORMS, "1:1 Unbuilt")?;
+    Ok(())
 }
 
 /// Where an allocation fails, a run answers its row, or want of memory with a part of the front of its text.
@@ -350,7 +499,7 @@ fn memory_may_run_out(rt: HostRuntime) {
         ("", refused, Status::Refused),
         (THREE_LINES, printed, Status::Done),
     ] {
-        if let Ok((status, out)) = run_one(rt.alloc(), script) {
+        if let Ok((status, out)) = run_one(rt.alloc(), script.as_bytes()) {
             let front = &text.as_bytes()[..out.taken().len().min(text.len())];
             assert_eq!(rt; out.taken(), front);
             if status != Status::NoMemory {

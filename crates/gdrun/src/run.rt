@@ -13,11 +13,11 @@ ghost use Rattle.gdrun.specs.Outcome.{outcome_of_run, IsOutcomeOfText, IsOutcome
 ghost use Rattle.gdrun.specs.Run.{HasWritten, HasWrittenSome, HasRefused};
 ghost use Rattle.gdrun.specs.Told.{status_of_ending};
 
+use crate::file::read_script;
 use crate::status::Status;
 use crate::stop::Stop;
 use crate::write::{finish, miss, refuse};
 use gd_machine::{Ending, Machine, Program, ending_line};
-use gd_parser::parse_first;
 use gd_syntax::{FaultKind, FirstScript, LoadFault, Place, ResPath, SolveError};
 use host_io::Sink;
 use project_run::{ImageFile, MAX_FILE_BYTES};
@@ -97,7 +97,7 @@ fn run_text<S: Sink>(
     ensures cause { IsErrOf result Stop.SinkFault → RoseBy 1 (S.faults out.old) (S.faults out.new) }
     ensures kept { (result ≢ Err Stop.SinkFault) → S.faults out.new ≡ S.faults out.old }
 {
-    match parse_first(alloc, text) {
+    match read_script(alloc, text) {
         Ok(script) => run_script(alloc, out, path, steps, script),
         Err(error) => refuse_text(alloc, out, path.as_str(), error),
     }

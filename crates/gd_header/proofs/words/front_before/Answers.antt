@@ -9,5 +9,5 @@ overflow_sub-text c = omega (arith, sized c.args.text.now c.args.end.now c.requi
 pub split_at-requires : goal.split_at-requires
 split_at-requires c = seam c.args.text.now c.args.end.now c.requires.0 c.utf8.text c.utf8.end c.requires.1
 
-pub returns : goal.returns
-returns c n is = ap chars c.split_at.ensures.front ∙ front_is c.args.text.now c.args.end.now n c.utf8.text c.utf8.end is
+pub returns-clause-front : goal.returns-clause-front
+returns-clause-front c n is = ap chars c.split_at.ensures.front ∙ front_is c.args.text.now c.args.end.now n c.utf8.text c.utf8.end is

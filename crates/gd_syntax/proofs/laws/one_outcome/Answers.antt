@@ -32,4 +32,4 @@ pub returns-clause-classes : goal.returns-clause-classes
 returns-clause-classes c tokens room classes at = has_one _ at (only_class_block tokens room classes) ((takes_class_block tokens room classes).some at)
 
 pub returns-clause-script : goal.returns-clause-script
-returns-clause-script c tokens at = has_one _ at (only_script tokens) ((takes_script tokens).some at)
+returns-clause-script c tokens header_end at = has_one _ at (only_script tokens header_end) ((takes_script tokens header_end).some at)

@@ -5,7 +5,7 @@ use Rattle.gd_syntax.specs.declared.token.Token.{Token}
 use Rattle.gd_syntax.specs.Layout.{Layout, first_place, front, laid_onto, lines_of, pieces, tokens_of}
 use Rattle.gd_tokens.specs.LayoutParts.{layout_of}
 use Rattle.gd_tokens.specs.LineParts.{line_of, lines_behind}
-use Rattle.gd_tokens.specs.ListParts.{IsLaid, EndsLine}
+use Rattle.gd_tokens.specs.ListParts.{IsLaid, EndsLine, EndsList}
 use Rattle.gd_tokens.proofs.Lists.{laid_turn, laid_end, laid_fault, more_lines}
 use Rattle.gd_tokens.proofs.texts.list_tokens.Goals as goal
 
@@ -23,8 +23,8 @@ loop-out-preserved c =
     ∙ sym (laid_turn c.loop-out.out.items c.add_line.new.out.items (layout_of c.loop-out.layout) (layout_of c.add_line.new.layout) line (lines_of [] (pieces 0 c.loop-out.reader.place c.loop-out.reader.rest.now)) more c.in_ok-line.ensures.value laid)
     ∙ c.loop-out.invariant
 
-pub returns-in-Ok-false : goal.returns-in-Ok-false
-returns-in-Ok-false c =
+pub returns-in-Ok-false-clause-answer : goal.returns-in-Ok-false-clause-answer
+returns-in-Ok-false-clause-answer c =
     let line = line_of c.in_ok-line.line in
     let reader = c.read_line.new.reader in
     let more = lines_behind c.in_ok-line.line.ending reader.place reader.rest.now in
@@ -35,8 +35,8 @@ returns-in-Ok-false c =
     sym c.loop-out.invariant
     ∙ laid_end c.loop-out.out.items c.add_line.new.out.items (layout_of c.loop-out.layout) (layout_of c.add_line.new.layout) line (lines_of [] (pieces 0 c.loop-out.reader.place c.loop-out.reader.rest.now)) more c.in_ok-line.ensures.value laid
 
-pub returns-in-Err : goal.returns-in-Err
-returns-in-Err c =
+pub returns-in-Err-clause-answer : goal.returns-in-Err-clause-answer
+returns-in-Err-clause-answer c =
     let line = line_of c.in_ok-line.line in
     let reader = c.read_line.new.reader in
     let more = lines_behind c.in_ok-line.line.ending reader.place reader.rest.now in
@@ -44,3 +44,8 @@ returns-in-Err c =
     let whole = laid_onto (first_place line.tokens line.ending) (layout_of c.loop-out.layout) line behind in
     let laid = subst (λ (r : Result Bool SolveError). IsLaid c.loop-out.out.items whole r c.add_line.new.out.items (behind (layout_of c.add_line.new.layout))) c.in-Err.is (c.add_line.ensures.laid behind) in
     laid_fault c.loop-out.out.items c.add_line.new.out.items (layout_of c.loop-out.layout) (layout_of c.add_line.new.layout) line (lines_of [] (pieces 0 c.loop-out.reader.place c.loop-out.reader.rest.now)) more c.in-Err.error _ (Err c.in-Err.error) refl c.in_ok-line.ensures.value laid c.loop-out.invariant
+
+pub returns-in-Ok-false-clause-ended : goal.returns-in-Ok-false-clause-ended
+returns-in-Ok-false-clause-ended c =
+    let is : c.add_line.result ≡ Ok false = c.in-Ok-false.is ∙ ap Ok c.in-Ok-false.field-0-test in
+    subst (λ (r : Result Bool SolveError). EndsList r c.add_line.new.out.items) is c.add_line.ensures.ended

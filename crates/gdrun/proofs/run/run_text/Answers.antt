@@ -1,6 +1,6 @@
 use Rattle.std.proofs.Common.{refl}
 use Rattle.gd_syntax.specs.FirstScript.{script_of}
-use Rattle.gd_syntax.specs.FirstGrammar.{taken}
+use Rattle.gdrun.specs.FileReading.{taken}
 use Rattle.gdrun.proofs.Texts.{refused_text}
 use Rattle.gdrun.proofs.run.run_text.Goals as goal
 

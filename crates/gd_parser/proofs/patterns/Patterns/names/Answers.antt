@@ -1,0 +1,17 @@
+use Rattle.gd_parser.specs.PatternForms.{inner, path_step}
+use Rattle.gd_syntax.proofs.PatternSteps.{names_none}
+use Rattle.gd_syntax.proofs.Steps.{exit}
+use Rattle.gd_syntax.specs.Reading.{Loop, Read}
+use Rattle.gd_syntax.specs.Reading.Look.{looks}
+use Rattle.gd_syntax.specs.Reading.Then.{goes, halts}
+use Rattle.std.proofs.Common.{List, ap, arith, refl, subst, ℕ}
+use Rattle.gd_parser.proofs.patterns.Patterns.names.Goals as goal
+
+pub returns-in_err-name-clause-reads : goal.returns-in_err-name-clause-reads
+returns-in_err-name-clause-reads g c = exit _ _ _ _ _ c.from_residual.ensures.1 (λ f h. c.names.invariant.reads _ (Loop.stop (looks (c.sees.ensures.yes c.names-test.true) (goes (ap (λ n. Read tt n) c.skip.ensures.next) (halts h))))) c.in_err-name.ensures.reads
+
+pub names-preserved : goal.names-preserved
+names-preserved g c = record { reads = λ o rest. c.names.invariant.reads o (Loop.on (looks (c.sees.ensures.yes c.names-test.true) (goes (ap (λ n. Read tt n) c.skip.ensures.next) (goes c.in_ok-name.ensures.reads refl))) (let P : List (List ℕ) → Type 0 = λ all. Loop (path_step c.args.self.now.tokens.now c.args.self.now.free c.args.self.now.room) all c.in_ok-name.next o in subst P c.in_ok-push.ensures.ok rest)); after = omega (arith, c.in_ok-name.ensures.next, c.skip.ensures.next); within = c.in_ok-name.ensures.within }
+
+pub returns-clause-reads : goal.returns-clause-reads
+returns-clause-reads g c = c.names.invariant.reads _ (Loop.last (names_none c.args.self.now.tokens.now c.args.self.now.room (inner c.args.self.now.tokens.now c.args.self.now.free c.args.self.now.room) _ _ (c.sees.ensures.no c.names-test.false)))
