@@ -21,8 +21,9 @@ use Rattle.variant_values.specs.Keys.{same_key, with_entry, without_entry}
 use Rattle.variant_values.specs.Places.{entry_weight, slot_weight, weight}
 use Rattle.variant_values.specs.Sound.{IsSound}
 use Rattle.variant_values.proofs.Knowing.{dict_within}
-use Rattle.variant_values.specs.DictMethods.{all_entered, entries_in, value_of_key, with_entries}
-use Rattle.container_calls.specs.Walks.{KnowsEntries, IsLastKey}
+use Rattle.variant_values.specs.DictMethods.{entries_in, value_of_key, with_entries}
+use Rattle.variant_values.specs.Heaps.{KnowsEntries}
+use Rattle.container_calls.specs.Walks.{IsLastKey}
 
 pub length_present : (es : List (Key × Value)) (k : Key) (v w : Value) → lookup (same_key k) es ≡ Some w → length (with_entry es k v) ≡ length es
 length_present [] k v w found = cc
@@ -62,24 +63,6 @@ keys_known cells (e ∷ es) k = All-cons (λ (v : Value). knows cells v ≡ true
 pub values_known : (cells : List (Option Cell)) (es : List (Key × Value)) → KnowsEntries cells es → KnowsAll cells (map (λ e. e.1) es)
 values_known cells [] k = λ i d l. absurd (omega (arith, l))
 values_known cells (e ∷ es) k = All-cons (λ (v : Value). knows cells v ≡ true) e.1 (map (λ f. f.1) es) (All-head (Known cells) e es k).1 (values_known cells es (All-tail (Known cells) e es k))
-
-put_known : (cells : List (Option Cell)) (es : List (Key × Value)) (k : Key) (v : Value) → KnowsEntries cells es → knows_key cells k ≡ true → knows cells v ≡ true → KnowsEntries cells (with_entry es k v)
-put_known cells [] k v h p q = All-cons (Known cells) (k, v) [] (p, q) h
-put_known cells (e ∷ es) k v h p q = by (put_known cells es k v (All-tail (Known cells) e es h) p q) (same_key k e.0)
-  where
-    by : KnowsEntries cells (with_entry es k v) → (b : Bool) → KnowsEntries cells (cond b ((e.0, v) ∷ es) (e ∷ with_entry es k v))
-    by later true = All-cons (Known cells) (e.0, v) es ((All-head (Known cells) e es h).0, q) (All-tail (Known cells) e es h)
-    by later false = All-cons (Known cells) e (with_entry es k v) (All-head (Known cells) e es h) later
-
-pub entered_known : (cells : List (Option Cell)) (es fs : List (Key × Value)) → KnowsEntries cells es → KnowsEntries cells fs → KnowsEntries cells (all_entered es fs)
-entered_known cells es [] h g = h
-entered_known cells es (f ∷ fs) h g = let one = All-head (Known cells) f fs g in entered_known cells (with_entry es f.0 f.1) fs (put_known cells es f.0 f.1 h one.0 one.1) (All-tail (Known cells) f fs g)
-
-pub none_known : (cells : List (Option Cell)) → KnowsEntries cells []
-none_known cells = λ i d l. absurd (omega (arith, l))
-
-pub entered_more : (es fs : List (Key × Value)) (i : ℕ) (e : Key × Value) → slice_get fs i ≡ Some e → all_entered es (drop i fs) ≡ all_entered (with_entry es e.0 e.1) (drop (i + 1) fs)
-entered_more es fs i e at = at_drop_more (λ us. all_entered es us) fs i e (slice_get_within fs i e at) ∙ ap (λ (x : Key × Value). all_entered (with_entry es x.0 x.1) (drop (i + 1) fs)) (get_or_from_slice_get fs i e e at)
 
 same_own : (k : Key) → same_key k k ≡ true
 same_own (KeyTruth b) = bool_eq_equiv.refl b
@@ -153,20 +136,3 @@ module _ (h : Heap) (x : ℕ) (dict : is_dict (cell_at h.cells x) ≡ true) (k :
       ap (λ (g : Heap). with_entries g x (without_entry (entries_in h x) k)) is
       ∙ with_twice old x was (entries_in h x) (without_entry (entries_in h x) k)
       ∙ ap (with_entries old x) (sym left)
-
--- how few entries a dictionary of a heap has
-few_in : (es : List (Key × Value)) → length es ≤ sum_by entry_weight es
-few_in [] = omega arith
-few_in (e ∷ es) = omega (arith, few_in es, sum_by-cons entry_weight e es)
-
-few_of : (c : Option Cell) → length (entries_of c) ≤ slot_weight c
-few_of None = omega arith
-few_of (Some (ArrayCell vs of)) = omega arith
-few_of (Some (DictCell es)) = omega (arith, few_in es)
-few_of (Some (ObjectCell o)) = omega arith
-
-pub few_entries : (h : Heap) → IsSound h → (x : ℕ) → length (entries_in h x) ≤ 67108864
-few_entries h s x = elim (cases_lt x (length h.cells)) [
-  | inl l ↦ omega (arith, few_of (cell_at h.cells x), get_or-le-sum_by slot_weight h.cells x None l, s.light)
-  | inr l ↦ omega (arith, ap (λ c. length (entries_of c)) (get_or_past h.cells x None l))
-]

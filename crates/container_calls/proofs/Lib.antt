@@ -2,5 +2,4 @@ pub mod Walking
 pub mod Entries
 pub mod Parts
 pub mod Sorting
-pub mod Keeping
 pub mod Plain

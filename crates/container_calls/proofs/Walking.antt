@@ -12,7 +12,8 @@ use Rattle.variant_values.specs.declared.faults.RunFault.TheVariants.{TooDeep}
 use Rattle.variant_values.specs.declared.values.Key.{Key}
 use Rattle.variant_values.specs.declared.values.Value.{Value}
 use Rattle.variant_values.specs.Comparisons.{Walk, come_to, then_on, same_found, same_at, same_by, same_items, same_entries}
-use Rattle.container_calls.specs.Walks.{arrays_at, dicts_at, left_of, KnowsEntries}
+use Rattle.variant_values.specs.Heaps.{KnowsEntries}
+use Rattle.container_calls.specs.Walks.{arrays_at, dicts_at, left_of}
 
 pub at_is : (cells : List (Option Cell)) (levels : ℕ) (v w : Value) (room : ℕ) → same_at cells levels v w room ≡ same_by cells (arrays_at cells levels) (dicts_at cells levels) v w room
 unfolding same_at

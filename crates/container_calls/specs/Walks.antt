@@ -21,10 +21,6 @@ abbrev pub dicts_at : List (Option Cell) → ℕ → List (Key × Value) → Lis
 dicts_at cells zero es fs room = Err TooDeep
 dicts_at cells (suc levels) es fs room = same_entries (λ a b n. same_at cells levels a b n) es fs room
 
--- what entries name is known
-abbrev pub KnowsEntries : List (Option Cell) → List (Key × Value) → Type 0
-KnowsEntries cells es = All (λ e. (knows_key cells e.0 ≡ true) × (knows cells e.1 ≡ true)) es
-
 -- how many items a walk may still come to, where it found no difference
 abbrev pub left_of : Walk → Option ℕ
 left_of (Ok left) = left
@@ -33,11 +29,6 @@ left_of (Err fault) = None
 abbrev pub is_no : Result Bool RunFault → Bool
 is_no (Ok b) = not b
 is_no (Err fault) = false
-
--- the one fault of the heap's own calls, or want of memory
-abbrev pub full_or_memory : Trouble → Trouble
-full_or_memory (Fault HeapFull) = Fault HeapFull
-full_or_memory trouble = NoMemory
 
 -- the operators that no container stands under
 abbrev pub is_plain_op : BinaryOp → Bool

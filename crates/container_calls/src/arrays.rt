@@ -1,16 +1,16 @@
 //! The methods of arrays, one by one.
-ghost use Rattle.std.specs.Prelude.{◌≡◌, ◌+◌, ◌<◌, ◌≤◌, ◌^◌, [], ◌∷◌, true, length, unwrap_or, option_copied, reverse, replicate, slice_get, IfOk, IfSome};
+ghost use Rattle.std.specs.Prelude.{◌≡◌, ◌+◌, ◌<◌, ◌≤◌, ◌^◌, [], ◌∷◌, true, length, reverse, replicate, slice_get, IfOk, IfSome};
 ghost use Rattle.variant_values.specs.Heaps.{cell_at, is_array, knows, with_splice, KnowsAll};
 ghost use Rattle.variant_values.specs.Operators.{Answers};
 ghost use Rattle.variant_values.specs.Changes.{Keeps, HasGiven, weighed};
 ghost use Rattle.variant_values.specs.Comparisons.{count_equal, first_equal, same_value};
-ghost use Rattle.variant_values.specs.ArrayMethods.{append_array_of, append_of, back_of, between, clear_of, count_of, cut, emptiness_of, erase_of, fill_of, find_of, front_of, has_found, has_of, insert_of, item_or_null, items_at, place_number, pop_back_of, pop_front_of, popped, push_front_of, put_of, remove_at_of, removed, reverse_of, shallow_of, size_of, slice_from_of, slice_of, spot_between};
+ghost use Rattle.variant_values.specs.ArrayMethods.{append_array_of, append_of, back_of, between, clear_of, count_of, cut, emptiness_of, erase_of, fill_of, find_of, front_of, has_of, insert_of, item_or_null, items_at, place_number, pop_back_of, pop_front_of, popped, push_front_of, put_of, remove_at_of, removed, reverse_of, shallow_of, size_of, slice_from_of, slice_of, spot_between};
 
-use crate::changes::{new_array, splice};
 use crate::comparisons::{count_equal, first_equal};
-use crate::elements::{all_taken, element, is_taken};
+use crate::elements::{all_taken, is_taken};
 use crate::indexing::{MOST_ITEMS, one, spot};
-use crate::views::items;
+use call_support::changes::{new_array, splice};
+use call_support::views::{element, items};
 use ref_objects::heap::Heap;
 use std::alloc::{AllocError, Global};
 use variant_values::faults::{RunFault, Trouble};
@@ -19,7 +19,8 @@ use variant_values::values::{Serial, Value};
 /// How many items an array has.
 pub fn size(heap: &Heap, of: Serial) -> Result<Value, RunFault>
     requires { is_array (cell_at heap.now.cells of.0) ≡ true }
-    ensures { result ≡ size_of (items_at heap.now of.0) }
+    ensures value { result ≡ size_of (items_at heap.now of.0) }
+    ensures known { IfOk result (λ v. knows heap.now.cells v ≡ true) }
 {
     Ok(Value::Int(items(heap, of).len() as i64))
 }
@@ -27,15 +28,19 @@ pub fn size(heap: &Heap, of: Serial) -> Result<Value, RunFault>
 /// Whether it has none.
 pub fn is_empty(heap: &Heap, of: Serial) -> Result<Value, RunFault>
     requires { is_array (cell_at heap.now.cells of.0) ≡ true }
-    ensures { result ≡ emptiness_of (items_at heap.now of.0) }
+    ensures value { result ≡ emptiness_of (items_at heap.now of.0) }
+    ensures known { IfOk result (λ v. knows heap.now.cells v ≡ true) }
 {
     Ok(Value::Bool(items(heap, of).len() == 0))
 }
 
-fn item_or_null(found: Option<&Value>) -> Result<Value, Trouble>
-    ensures { Answers result (Ok (item_or_null (option_copied found.entry))) }
+/// A copy of an item, or null where there is none.
+fn item_or_null(heap: &Heap, items: &[Value], at: usize) -> Result<Value, Trouble>
+    requires { KnowsAll heap.now.cells items.now }
+    ensures value { Answers result (Ok (item_or_null (slice_get items.now at))) }
+    ensures known { IfOk result (λ v. knows heap.now.cells v ≡ true) }
 {
-    match found {
+    match items.get(at) {
         Some(v) => Ok(v.clone()?),
         None => Ok(Value::Null),
     }
@@ -44,18 +49,20 @@ fn item_or_null(found: Option<&Value>) -> Result<Value, Trouble>
 /// The first item, or null.
 pub fn front(heap: &Heap, of: Serial) -> Result<Value, Trouble>
     requires { is_array (cell_at heap.now.cells of.0) ≡ true }
-    ensures { Answers result (front_of (items_at heap.now of.0)) }
+    ensures value { Answers result (front_of (items_at heap.now of.0)) }
+    ensures known { IfOk result (λ v. knows heap.now.cells v ≡ true) }
 {
-    item_or_null(items(heap, of).get(0))
+    item_or_null(heap, items(heap, of), 0)
 }
 
 /// The last item, or null.
 pub fn back(heap: &Heap, of: Serial) -> Result<Value, Trouble>
     requires { is_array (cell_at heap.now.cells of.0) ≡ true }
-    ensures { Answers result (back_of (items_at heap.now of.0)) }
+    ensures value { Answers result (back_of (items_at heap.now of.0)) }
+    ensures known { IfOk result (λ v. knows heap.now.cells v ≡ true) }
 {
     let items = items(heap, of);
-    item_or_null(items.get(items.len().saturating_sub(1)))
+    item_or_null(heap, items, items.len().saturating_sub(1))
 }
 
 /// A change of items, and the value that it gives.
@@ -394,16 +401,11 @@ pub fn duplicate(alloc: Global, heap: &mut Heap, of: Serial) -> Result<Value, Tr
 pub fn has(heap: &Heap, of: Serial, v: &Value) -> Result<Value, RunFault>
     requires array { is_array (cell_at heap.now.cells of.0) ≡ true }
     requires value { knows heap.now.cells v.now ≡ true }
-    ensures { result ≡ has_of heap.now of.0 v.now }
+    ensures value { result ≡ has_of heap.now of.0 v.now }
+    ensures known { IfOk result (λ v. knows heap.now.cells v ≡ true) }
 {
-    has_found(find_in(heap, of, v))
-}
-
-fn has_found(found: Result<Option<usize>, RunFault>) -> Result<Value, RunFault>
-    ensures { result ≡ has_found found }
-{
-    match found {
-        Ok(place) => Ok(Value::Bool(place.is_some())),
+    match find_in(heap, of, v) {
+        Ok(found) => Ok(Value::Bool(found.is_some())),
         Err(fault) => Err(fault),
     }
 }
@@ -412,7 +414,8 @@ fn has_found(found: Result<Option<usize>, RunFault>) -> Result<Value, RunFault>
 pub fn find(heap: &Heap, of: Serial, v: &Value) -> Result<Value, RunFault>
     requires array { is_array (cell_at heap.now.cells of.0) ≡ true }
     requires value { knows heap.now.cells v.now ≡ true }
-    ensures { result ≡ find_of heap.now of.0 v.now }
+    ensures value { result ≡ find_of heap.now of.0 v.now }
+    ensures known { IfOk result (λ v. knows heap.now.cells v ≡ true) }
 {
     match find_in(heap, of, v) {
         Ok(found) => Ok(Value::Int(place_number(found))),
@@ -434,7 +437,8 @@ fn place_number(found: Option<usize>) -> i64
 pub fn count(heap: &Heap, of: Serial, v: &Value) -> Result<Value, RunFault>
     requires array { is_array (cell_at heap.now.cells of.0) ≡ true }
     requires value { knows heap.now.cells v.now ≡ true }
-    ensures { result ≡ count_of heap.now of.0 v.now }
+    ensures value { result ≡ count_of heap.now of.0 v.now }
+    ensures known { IfOk result (λ v. knows heap.now.cells v ≡ true) }
 {
     match count_in(heap, of, v) {
         Ok(count) => Ok(Value::Int(count as i64)),

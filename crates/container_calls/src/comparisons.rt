@@ -1,17 +1,14 @@
 // The walk over two values.
 ghost use Rattle.std.specs.Prelude.{◌≡◌, ◌<◌, ◌≤◌, true, false, length, IfOk, IfSome, Some, None, Ok};
-ghost use Rattle.variant_values.specs.Heaps.{cell_at, is_array, is_dict, knows, KnowsAll};
-ghost use Rattle.variant_values.specs.Operators.{equal, same_text};
-ghost use Rattle.variant_values.specs.Classes.{same_class};
-ghost use Rattle.variant_values.specs.Comparisons.{by_test, count_equal, equality, first_equal, or_refused, same_at, same_by, same_entries, same_items, same_value, told, verdict};
-ghost use Rattle.container_calls.specs.Walks.{arrays_at, dicts_at, is_no, left_of, KnowsEntries};
+ghost use Rattle.variant_values.specs.Heaps.{cell_at, is_array, is_dict, knows, KnowsAll, KnowsEntries};
+ghost use Rattle.variant_values.specs.Comparisons.{by_test, count_equal, equality, first_equal, or_refused, same_at, same_by, same_entries, same_items, same_value, compared, verdict};
+ghost use Rattle.container_calls.specs.Walks.{arrays_at, dicts_at, is_no, left_of};
 
-use crate::views::{entries, items};
+use call_support::views::{entries, items};
 use ref_objects::heap::Heap;
-use variant_values::classes::is_same_class;
 use variant_values::entries::Entries;
 use variant_values::faults::RunFault;
-use variant_values::texts::Str;
+use variant_values::operators::equal;
 use variant_values::values::{Serial, Value};
 
 /// The levels of containers that one walk may open.
@@ -20,34 +17,8 @@ const LEVELS: u32 = 64;
 /// The items that one walk may come to.
 const ITEMS: u32 = 1_048_576;
 
-fn same_text(a: &Str, b: &Str) -> bool
-    ensures { result ≡ same_text a.now b.now }
-{
-    a.as_str() == b.as_str()
-}
-
-/// Whether two values are equal that stand in no cell, where they may be compared.
-fn equal(a: &Value, b: &Value) -> Option<bool>
-    ensures { result ≡ equal a.now b.now }
-{
-    match (a, b) {
-        (Value::Null, Value::Null) => Some(true),
-        (Value::Null, _) | (_, Value::Null) => Some(false),
-        (Value::Bool(a), Value::Bool(b)) => Some(*a == *b),
-        (Value::Int(a), Value::Int(b)) => Some(*a == *b),
-        (Value::Str(a), Value::Str(b)) => Some(same_text(a, b)),
-        (Value::Object(a), Value::Object(b)) => Some(a.0 == b.0),
-        (Value::Callable(a, f), Value::Callable(b, g)) => Some(a.0 == b.0 && same_text(f, g)),
-        (Value::Signal(a, f), Value::Signal(b, g)) => Some(a.0 == b.0 && same_text(f, g)),
-        (Value::Class(a), Value::Class(b)) => Some(is_same_class(a, b)),
-        (Value::Scene(a, p), Value::Scene(b, q)) => Some(*a == *b && same_text(p, q)),
-        (Value::Weak(a), Value::Weak(b)) => Some(a.0 == b.0),
-        _ => None,
-    }
-}
-
-fn told(answer: Option<bool>, room: u32) -> Option<u32>
-    ensures { Ok result ≡ told answer room }
+fn compared(answer: Option<bool>, room: u32) -> Option<u32>
+    ensures { Ok result ≡ compared answer room }
 {
     match answer {
         Some(true) => Some(room),
@@ -82,7 +53,7 @@ fn same_at(
     match (a, b) {
         (Value::Array(a), Value::Array(b)) => same_arrays(heap, levels, *a, *b, room),
         (Value::Dict(a), Value::Dict(b)) => same_dicts(heap, levels, *a, *b, room),
-        _ => Ok(told(equal(a, b), room)),
+        _ => Ok(compared(equal(a, b), room)),
     }
 }
 

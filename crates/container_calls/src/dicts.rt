@@ -1,14 +1,16 @@
 //! The methods of dictionaries, one by one.
-ghost use Rattle.std.specs.Prelude.{◌≡◌, [], ◌∷◌, ◌++◌, true, map, IfOk, OnOk, unwrap_or, option_copied};
+ghost use Rattle.std.specs.Prelude.{◌≡◌, [], ◌∷◌, ◌++◌, true, map, IfOk, OnOk, unwrap_or};
 ghost use Rattle.variant_values.specs.Heaps.{cell_at, is_dict, knows};
-ghost use Rattle.variant_values.specs.Keys.{with_entry};
+ghost use Rattle.std.specs.Map.{lookup};
+ghost use Rattle.variant_values.specs.Keys.{same_key};
 ghost use Rattle.variant_values.specs.Operators.{key_of, Answers};
 ghost use Rattle.variant_values.specs.Changes.{Keeps, HasGiven};
-ghost use Rattle.variant_values.specs.DictMethods.{all_entered, dict_clear_of, dict_emptiness_of, dict_erase_of, dict_shallow_of, dict_size_of, entries_in, keys_of, presence_of, value_of, value_of_key, values_of};
+ghost use Rattle.variant_values.specs.DictMethods.{dict_clear_of, dict_emptiness_of, dict_erase_of, dict_shallow_of, dict_size_of, entries_in, keys_of, presence_of, value_of, value_of_key, values_of};
 ghost use Rattle.container_calls.specs.Walks.{IsLastKey};
 
-use crate::changes::{new_array, new_dict};
-use crate::views::entries;
+use call_support::changes::{new_array, new_dict};
+use call_support::copies::copied_entries;
+use call_support::views::{entries, value_at};
 use ref_objects::heap::Heap;
 use std::alloc::{AllocError, Global};
 use variant_values::entries::Entries;
@@ -18,7 +20,8 @@ use variant_values::values::{Key, Serial, Value};
 /// How many entries a dictionary has.
 pub fn size(heap: &Heap, of: Serial) -> Result<Value, RunFault>
     requires { is_dict (cell_at heap.now.cells of.0) ≡ true }
-    ensures { result ≡ dict_size_of (entries_in heap.now of.0) }
+    ensures value { result ≡ dict_size_of (entries_in heap.now of.0) }
+    ensures known { IfOk result (λ v. knows heap.now.cells v ≡ true) }
 {
     Ok(Value::Int(entries(heap, of).len() as i64))
 }
@@ -26,7 +29,8 @@ pub fn size(heap: &Heap, of: Serial) -> Result<Value, RunFault>
 /// Whether it has none.
 pub fn is_empty(heap: &Heap, of: Serial) -> Result<Value, RunFault>
     requires { is_dict (cell_at heap.now.cells of.0) ≡ true }
-    ensures { result ≡ dict_emptiness_of (entries_in heap.now of.0) }
+    ensures value { result ≡ dict_emptiness_of (entries_in heap.now of.0) }
+    ensures known { IfOk result (λ v. knows heap.now.cells v ≡ true) }
 {
     Ok(Value::Bool(entries(heap, of).len() == 0))
 }
@@ -34,16 +38,20 @@ pub fn is_empty(heap: &Heap, of: Serial) -> Result<Value, RunFault>
 /// Whether a key is there.
 pub fn has(heap: &Heap, of: Serial, key: &Value) -> Result<Value, Trouble>
     requires { is_dict (cell_at heap.now.cells of.0) ≡ true }
-    ensures { Answers result (presence_of (entries_in heap.now of.0) (key_of key.now)) }
+    ensures value { Answers result (presence_of (entries_in heap.now of.0) (key_of key.now)) }
+    ensures known { IfOk result (λ v. knows heap.now.cells v ≡ true) }
 {
     let key = Key::of(key)?;
     Ok(Value::Bool(entries(heap, of).get(&key).is_some()))
 }
 
-fn value_or(found: Option<&Value>, default: &Value) -> Result<Value, Trouble>
-    ensures { Answers result (Ok (unwrap_or (option_copied found.entry) default.now)) }
+fn value_or(heap: &Heap, of: Serial, key: &Key, default: &Value) -> Result<Value, Trouble>
+    requires dict { is_dict (cell_at heap.now.cells of.0) ≡ true }
+    requires default { knows heap.now.cells default.now ≡ true }
+    ensures value { Answers result (Ok (unwrap_or (lookup (same_key key.now) (entries_in heap.now of.0)) default.now)) }
+    ensures known { IfOk result (λ v. knows heap.now.cells v ≡ true) }
 {
-    match found {
+    match value_at(heap, of, key) {
         Some(v) => Ok(v.clone()?),
         None => Ok(default.clone()?),
     }
@@ -51,11 +59,13 @@ fn value_or(found: Option<&Value>, default: &Value) -> Result<Value, Trouble>
 
 /// The value of a key, or the default where it is missing.
 pub fn get(heap: &Heap, of: Serial, key: &Value, default: &Value) -> Result<Value, Trouble>
-    requires { is_dict (cell_at heap.now.cells of.0) ≡ true }
-    ensures { Answers result (value_of (entries_in heap.now of.0) (key_of key.now) default.now) }
+    requires dict { is_dict (cell_at heap.now.cells of.0) ≡ true }
+    requires default { knows heap.now.cells default.now ≡ true }
+    ensures value { Answers result (value_of (entries_in heap.now of.0) (key_of key.now) default.now) }
+    ensures known { IfOk result (λ v. knows heap.now.cells v ≡ true) }
 {
     let key = Key::of(key)?;
-    value_or(entries(heap, of).get(&key), default)
+    value_or(heap, of, &key, default)
 }
 
 /// The value that a key is.
@@ -155,24 +165,6 @@ pub fn clear(heap: &mut Heap, of: Serial) -> Result<Value, Trouble>
         heap.remove_entry(of, &key);
     }
     Ok(Value::Null)
-}
-
-fn enter_copy(copy: &mut Entries, key: &Key, value: &Value) -> Result<(), AllocError>
-    ensures { OnOk result (copy.new ≡ with_entry copy.old key.now value.now) }
-{
-    copy.insert(key.clone()?, value.clone()?)?;
-    Ok(())
-}
-
-fn copied_entries(alloc: Global, entries: &Entries) -> Result<Entries, AllocError>
-    ensures { IfOk result (λ copy. copy ≡ all_entered [] entries.now) }
-{
-    let mut copy = Entries::new(alloc);
-    for i in 0..entries.len() {
-        let (key, value) = entries.entry_at(i);
-        enter_copy(&mut copy, key, value)?;
-    }
-    Ok(copy)
 }
 
 /// A new dictionary of the same entries. Containers inside stay shared.

@@ -2,25 +2,13 @@
 ghost use Rattle.std.specs.Prelude.{◌≡◌, true};
 ghost use Rattle.std.specs.List.{list_any};
 ghost use Rattle.variant_values.specs.Classes.{same_class};
-ghost use Rattle.variant_values.specs.Heaps.{cell_at, is_array, knows, knows_object, KnowsAll};
-ghost use Rattle.variant_values.specs.ElementTypes.{all_taken, common, element_of, is_instance, is_of, is_taken, lineage_of, same_tag};
+ghost use Rattle.variant_values.specs.Heaps.{cell_at, knows, knows_object, KnowsAll};
+ghost use Rattle.variant_values.specs.ElementTypes.{all_taken, common, is_instance, is_of, is_taken, lineage_of, same_tag};
 
 use ref_objects::heap::Heap;
 use variant_values::cells::Cell;
 use variant_values::classes::{ClassTag, ElementTag, is_same_class};
 use variant_values::values::{Serial, Value};
-
-/// The element type of an array, where it has one.
-pub fn element(heap: &Heap, of: Serial) -> Option<ElementTag>
-    requires { is_array (cell_at heap.now.cells of.0) ≡ true }
-    ensures { result ≡ element_of (cell_at heap.now.cells of.0) }
-{
-    heap.is_sound();
-    match heap.cell(of) {
-        Some(Cell::Array(_, element)) => *element,
-        _ => unreachable!(),
-    }
-}
 
 fn is_among(tags: &[ClassTag], class: &ClassTag) -> bool
     ensures { result ≡ list_any (same_class class.now) tags.now }

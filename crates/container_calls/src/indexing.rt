@@ -1,17 +1,17 @@
 // Reading and writing by an index.
-ghost use Rattle.std.specs.Prelude.{◌≡◌, ◌∷◌, [], true, length, nat_le, option_copied, IfOk, slice_get};
+ghost use Rattle.std.specs.Prelude.{◌≡◌, ◌∷◌, [], true, length, nat_le, IfOk, slice_get};
 ghost use Rattle.std.specs.Char.{encode_utf8};
 ghost use Rattle.std.specs.Str.{chars};
-ghost use Rattle.variant_values.specs.Heaps.{cell_at, is_array, is_dict, items_of, knows, knows_key};
+ghost use Rattle.variant_values.specs.Heaps.{cell_at, is_array, is_dict, entries_of, items_of, knows, knows_key, KnowsAll};
 ghost use Rattle.variant_values.specs.Operators.{Answers, key_of};
 ghost use Rattle.variant_values.specs.Changes.{Keeps, HasGiven};
-ghost use Rattle.variant_values.specs.Indexing.{character_at, entry_at, entry_put, entry_put_at, index_of, index_put, item_at, item_put, or_fault, spot};
+ghost use Rattle.variant_values.specs.Indexing.{character_at, entry_at, entry_put, entry_put_at, index_of, index_put, item_at, item_put, spot};
 ghost use Rattle.variant_values.specs.Keys.{with_entry};
 ghost use Rattle.variant_values.specs.declared.values.Value.{Value as AValue};
 
-use crate::changes::{set_entry, splice};
-use crate::elements::{element, is_taken};
-use crate::views::{entries, items};
+use crate::elements::is_taken;
+use call_support::changes::{set_entry, splice};
+use call_support::views::{element, entries, items, value_at};
 use ref_objects::heap::Heap;
 use std::alloc::{AllocError, Global};
 use variant_values::entries::Entries;
@@ -34,29 +34,26 @@ pub fn spot(index: i64, len: usize) -> Option<usize>
     }
 }
 
-/// A value that was found, or the fault where there is none.
-pub fn or_fault(fault: RunFault, found: Option<&Value>) -> Result<Value, Trouble>
-    ensures { Answers result (or_fault fault (option_copied found.entry)) }
+fn item_at(heap: &Heap, items: &[Value], at: Option<usize>) -> Result<Value, Trouble>
+    requires { KnowsAll heap.now.cells items.now }
+    ensures value { Answers result (item_at items.now at) }
+    ensures known { IfOk result (λ v. knows heap.now.cells v ≡ true) }
 {
-    match found {
+    let Some(at) = at else {
+        return Err(Trouble::Fault(RunFault::BadIndex));
+    };
+    match items.get(at) {
         Some(v) => Ok(v.clone()?),
-        None => Err(Trouble::Fault(fault)),
-    }
-}
-
-fn item_at(items: &[Value], at: Option<usize>) -> Result<Value, Trouble>
-    ensures { Answers result (item_at items.now at) }
-{
-    match at {
-        Some(at) => or_fault(RunFault::BadIndex, items.get(at)),
         None => Err(Trouble::Fault(RunFault::BadIndex)),
     }
 }
 
-fn item(items: &[Value], index: i64) -> Result<Value, Trouble>
-    ensures { Answers result (item_at items.now (spot index (length items.now))) }
+fn item(heap: &Heap, items: &[Value], index: i64) -> Result<Value, Trouble>
+    requires { KnowsAll heap.now.cells items.now }
+    ensures value { Answers result (item_at items.now (spot index (length items.now))) }
+    ensures known { IfOk result (λ v. knows heap.now.cells v ≡ true) }
 {
-    item_at(items, spot(index, items.len()))
+    item_at(heap, items, spot(index, items.len()))
 }
 
 fn text_of_char(alloc: Global, c: char) -> Result<Str, AllocError>
@@ -91,22 +88,28 @@ fn character(alloc: Global, text: &Str, index: i64) -> Result<Value, Trouble>
     }
 }
 
-fn entry(entries: &Entries, index: &Value) -> Result<Value, Trouble>
-    ensures { Answers result (entry_at entries.now (key_of index.now)) }
+fn entry(heap: &Heap, of: Serial, index: &Value) -> Result<Value, Trouble>
+    requires { is_dict (cell_at heap.now.cells of.0) ≡ true }
+    ensures value { Answers result (entry_at (entries_of (cell_at heap.now.cells of.0)) (key_of index.now)) }
+    ensures known { IfOk result (λ v. knows heap.now.cells v ≡ true) }
 {
     let key = Key::of(index)?;
-    or_fault(RunFault::NoKey, entries.get(&key))
+    match value_at(heap, of, &key) {
+        Some(v) => Ok(v.clone()?),
+        None => Err(Trouble::Fault(RunFault::NoKey)),
+    }
 }
 
 /// `of[index]`: an array or a text by place, where a negative one counts from the end, and a dictionary by key.
 pub fn get_index(alloc: Global, heap: &Heap, of: &Value, index: &Value) -> Result<Value, Trouble>
     requires { knows heap.now.cells of.now ≡ true }
-    ensures { Answers result (index_of heap.now.cells of.now index.now) }
+    ensures value { Answers result (index_of heap.now.cells of.now index.now) }
+    ensures known { IfOk result (λ v. knows heap.now.cells v ≡ true) }
 {
     match (of, index) {
-        (Value::Array(s), Value::Int(i)) => item(items(heap, *s), *i),
+        (Value::Array(s), Value::Int(i)) => item(heap, items(heap, *s), *i),
         (Value::Str(text), Value::Int(i)) => character(alloc, text, *i),
-        (Value::Dict(s), _) => entry(entries(heap, *s), index),
+        (Value::Dict(s), _) => entry(heap, *s, index),
         _ => Err(Trouble::Fault(RunFault::BadOperands)),
     }
 }

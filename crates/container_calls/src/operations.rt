@@ -7,11 +7,11 @@ ghost use Rattle.variant_values.specs.Changes.{looked, Keeps, HasGiven};
 ghost use Rattle.variant_values.specs.Operations.{added, answered, arrays_joined, denied, has_key, in_text, is_found, is_part, is_value_op, operated, within};
 ghost use Rattle.container_calls.specs.Walks.{is_plain_op};
 
-use crate::changes::new_array;
 use crate::comparisons::{equality, first_equal};
-use crate::elements::{common, element};
+use crate::elements::common;
 use crate::indexing::MOST_ITEMS;
-use crate::views::{entries, items};
+use call_support::changes::new_array;
+use call_support::views::{element, entries, items};
 use ref_objects::heap::Heap;
 use std::alloc::{AllocError, Global};
 use variant_values::entries::Entries;

@@ -8,7 +8,7 @@ ghost use Rattle.variant_values.specs.Changes.{Keeps, HasGiven};
 ghost use Rattle.variant_values.specs.ArrayMethods.{in_order, is_number, items_at, number_before, number_in, put_in_order, sort_of, text_before, text_in};
 
 use crate::arrays::change;
-use crate::views::items;
+use call_support::views::items;
 use ref_objects::heap::Heap;
 use std::alloc::{AllocError, Global};
 use variant_values::faults::{RunFault, Trouble};

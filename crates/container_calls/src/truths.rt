@@ -2,7 +2,7 @@ ghost use Rattle.std.specs.Prelude.{◌≡◌, true};
 ghost use Rattle.variant_values.specs.Heaps.{knows};
 ghost use Rattle.variant_values.specs.Comparisons.{is_true};
 
-use crate::views::{entries, items, lives};
+use call_support::views::{entries, items, lives};
 use ref_objects::heap::Heap;
 use variant_values::values::Value;
 

@@ -131,6 +131,10 @@ room_shift m a w h = elim (cases_lt (m - a) w) [
   | inr l ↦ ap (λ b. cond b (Some (m - a - w)) None) (le-leb w (m - a) l) ∙ ap Some (omega (arith, h, l)) ∙ sym (ap (λ b. cond b (Some (m - (a + w))) None) (le-leb (a + w) m (omega (arith, h, l))))
 ]
 
+-- as many slots where the cells are the same
+pub same_length : (a b : List Slot) → cells_of b ≡ cells_of a → length b ≡ length a
+same_length a b e = sym (length-map b (λ s. s.cell)) ∙ ap length e ∙ length-map a (λ s. s.cell)
+
 -- the counts of values that were put in and of those that come after them
 pub traded : (a b c : List Slot) (more less : ℕ → ℕ) → IsRaised a b more → IsLowered b c less → IsRecounted a c more none_more less
 traded a b c more less up down = record {
@@ -247,3 +251,32 @@ module _ (a : List Slot) (x total at out : ℕ) (put : List Value) (k : IsKept a
             cells_are = cells;
             held = swapped_held a d x (items_put (spliced vs at out put) s) sw total k;
           }
+
+    -- what putting values in the place of others needs
+    module _ (known : KnowsAll (cells_of a) put) where
+      abbrev ns : List Value
+      ns = take at vs ++ put ++ drop at vs
+
+      long_b : length b ≡ length (cells_of a)
+      long_b = sym (length-map b (λ s. s.cell)) ∙ ap length emptied.cells ∙ length-set (cells_of a) x (items_put [] s)
+
+      each_within : (us : List Value) → KnowsAll (cells_of a) us → All (λ v. place_of v < length b) us
+      each_within us n = λ i d l. rw long_b (value_within (cells_of a) (get_or us i d) (rw (length-map a (λ s. s.cell)) k.some) (n i d l))
+
+      pub put_within : All (λ v. place_of v < length b) put
+      put_within = each_within put known
+
+      pub before_within : All (λ v. place_of v < length b) (take out (drop at vs))
+      before_within = each_within (take out (drop at vs)) (All-take (λ v. knows (cells_of a) v ≡ true) out (drop at vs) (All-drop (λ v. knows (cells_of a) v ≡ true) at vs (items_all (cells_of a) s array (k.known x))))
+
+      pub put_room : sum_by item_weight put ≤ 67108864 → (y : ℕ) → count_at b y + in_values y put < 2 ^ 128
+      put_room light y = omega (arith, emptied.counts y, k.few y, k.weighed, k.light, in_cells_le y (cells_of a), values_le y put, light)
+
+      pub before_held : (y : ℕ) → lives b y ≡ true → in_values y (take out (drop at vs)) ≤ count_at b y
+      before_held y l = omega (arith, emptied.counts y, k.counted y (sym (lives_b y) ∙ l), slot_le y x (cells_of a), places_before y, part_le vs put at out fits (in_value y))
+
+      pub replaced_now : (c d : List Slot) (us : List Value) (total' : ℕ) → IsRecounted b c (λ y. in_values y put) none_more (λ y. in_values y (take out (drop at vs))) → us ≡ spliced vs at out put → IsPut c d x (items_put us (cell_at (cells_of c) x)) → total' ≡ weight (set (cells_of a) x (items_put (spliced vs at out put) s)) → total' ≤ 67108864 → IsNow a d total' (set (cells_of a) x (items_put (spliced vs at out put) s))
+      replaced_now c d us total' re us_is p w light =
+          let Ins : List Value → Type 0 = λ q. IsRecounted b c (λ y. in_values y q) none_more (λ y. in_values y (slice_range ns (at + length put) (at + length put + out))) in
+          let Outs : List Value → Type 0 = λ q. IsRecounted b c (λ y. in_values y put) none_more (λ y. in_values y q) in
+          traded_now known ns refl c d us total' (subst Ins (sym (put_is vs put at out fits)) (subst Outs (sym (out_is vs put at out fits)) re)) (us_is ∙ sym (rest_is vs put at out fits)) p w light

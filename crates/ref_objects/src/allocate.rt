@@ -1,4 +1,4 @@
-ghost use Rattle.std.specs.Prelude.{◌≡◌, ◌<◌, ◌+◌, ◌↔◌, Err, IfOk, OnErr};
+ghost use Rattle.std.specs.Prelude.{◌≡◌, ◌<◌, ◌+◌, ◌↔◌, Err, IfOk, OnErr, IfErr, ◌⊎◌};
 ghost use Rattle.variant_values.specs.Heaps.{KnowsCell};
 ghost use Rattle.variant_values.specs.Places.{cell_weight, weight};
 ghost use Rattle.ref_objects.specs.Slots.{cells_of, IsKept, IsGrown};
@@ -19,6 +19,7 @@ pub fn add_cell(slots: &mut Vec<Slot>, cell: Cell, total: u64) -> Result<u64, Tr
     ensures full { (result ≡ Err (Trouble.Fault RunFault.HeapFull)) ↔ (67108864 < weight (cells_of slots.old.items) + cell_weight cell) }
     ensures ok { IfOk result (λ left. IsGrown slots.old.items slots.new.items left cell) }
     ensures err { OnErr result (slots.new.items ≡ slots.old.items) }
+    ensures only { IfErr result (λ e. (e ≡ Trouble.Fault RunFault.HeapFull) ⊎ (e ≡ Trouble.NoMemory)) }
 {
     let Some(room) = cell_room(&cell, LIMIT - total) else {
         return Err(Trouble::Fault(RunFault::HeapFull));

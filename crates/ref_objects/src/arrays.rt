@@ -1,4 +1,4 @@
-ghost use Rattle.std.specs.Prelude.{◌≡◌, ◌<◌, ◌^◌, ◌+◌, ◌++◌, ◌≤◌, ◌↔◌, ℕ, length, take, drop, true, [], All, Err, IfOk, OnErr, slice_set, slice_range};
+ghost use Rattle.std.specs.Prelude.{◌≡◌, ◌<◌, ◌^◌, ◌+◌, ◌++◌, ◌≤◌, ◌↔◌, ℕ, length, take, drop, true, [], All, Err, IfOk, OnErr, slice_set, slice_range, IfErr, ◌⊎◌};
 ghost use Rattle.variant_values.specs.Places.{place_of, in_values, item_weight, weight, room_left};
 ghost use Rattle.variant_values.specs.Heaps.{cell_at, is_array, items_of, items_put, spliced, KnowsAll};
 ghost use Rattle.ref_objects.specs.Slots.{cells_of, count_at, lives, IsKept, IsPut, IsNow, IsRecounted, none_more};
@@ -86,6 +86,30 @@ fn trade(slots: &mut Vec<Slot>, values: &mut Values, at: usize, count: usize, ou
     values.take_out(at + count, out);
 }
 
+/// Puts values into an array in the place of as many items. The other items stay where they are.
+fn replace_items(
+    slots: &mut Vec<Slot>,
+    x: usize,
+    at: usize,
+    put: Vec<Value>,
+    total: u64,
+    alloc: Global,
+)
+    requires kept { IsKept slots.old.items total }
+    requires within { x < length slots.old.items }
+    requires array { is_array (cell_at (cells_of slots.old.items) x) ≡ true }
+    requires items { at + length put.items ≤ length (items_of (cell_at (cells_of slots.old.items) x)) }
+    requires put { KnowsAll (cells_of slots.old.items) put.items }
+    requires light { weight (slice_set (cells_of slots.old.items) x (items_put (spliced (items_of (cell_at (cells_of slots.old.items) x)) at (length put.items) put.items) (cell_at (cells_of slots.old.items) x))) ≤ 67108864 }
+    ensures { IsNow slots.old.items slots.new.items (weight (slice_set (cells_of slots.old.items) x (items_put (spliced (items_of (cell_at (cells_of slots.old.items) x)) at (length put.items) put.items) (cell_at (cells_of slots.old.items) x)))) (slice_set (cells_of slots.old.items) x (items_put (spliced (items_of (cell_at (cells_of slots.old.items) x)) at (length put.items) put.items) (cell_at (cells_of slots.old.items) x))) }
+{
+    let mut values = take_items(slots, x, alloc);
+    raise_values(slots, put.as_slice());
+    let before = values.exchange(at, put);
+    lower_values(slots, before.as_slice());
+    put_items(slots, x, values);
+}
+
 /// Puts values into an array in the place of `out` items, and answers the weight then.
 pub fn store_splice(
     slots: &mut Vec<Slot>,
@@ -104,11 +128,16 @@ pub fn store_splice(
     ensures full { (result ≡ Err (Trouble.Fault RunFault.HeapFull)) ↔ (67108864 < weight (slice_set (cells_of slots.old.items) x (items_put (spliced (items_of (cell_at (cells_of slots.old.items) x)) at out put.items) (cell_at (cells_of slots.old.items) x)))) }
     ensures ok { IfOk result (λ left. IsNow slots.old.items slots.new.items left (slice_set (cells_of slots.old.items) x (items_put (spliced (items_of (cell_at (cells_of slots.old.items) x)) at out put.items) (cell_at (cells_of slots.old.items) x)))) }
     ensures err { OnErr result (IsNow slots.old.items slots.new.items total (cells_of slots.old.items)) }
+    ensures only { IfErr result (λ e. (e ≡ Trouble.Fault RunFault.HeapFull) ⊎ (e ≡ Trouble.NoMemory)) }
 {
     let Some(room) = splice_room(slots.as_slice(), x, at, out, put.as_slice(), total) else {
         return Err(Trouble::Fault(RunFault::HeapFull));
     };
     let count = put.len();
+    if count == out {
+        replace_items(slots, x, at, put, total, alloc);
+        return Ok(LIMIT - room);
+    }
     let mut values = take_items(slots, x, alloc);
     match values.put_in(at, put) {
         Ok(()) => {

@@ -9,7 +9,7 @@ use crate::counts::{key_place, place_of};
 use crate::fields::field_at;
 use crate::heap::Heap;
 use crate::objects::parent_at;
-use crate::slots::Slot;
+use crate::slots::{Slot, lives};
 use variant_values::cells::Cell;
 use variant_values::entries::Entries;
 use variant_values::values::{Key, Serial, Value};
@@ -326,11 +326,14 @@ impl Heap {
         is_apart(self.slots.as_slice(), top.0, s.0, 100)
     }
 
+    /// Whether an object has the field, where it lives.
     pub fn has_field(&self, s: Serial, index: u32) -> bool
-        ensures { result ≡ is_some (field_in (cell_at self.now.cells s.0) index) }
+        ensures { result ≡ true → is_living self.now.cells s.0 ≡ true → is_some (field_in (cell_at self.now.cells s.0) index) ≡ true }
     {
-        (s.0 as usize) < self.slots.len()
-            && field_at(self.slots.as_slice(), s.0 as usize, index as usize).is_some()
+        if !lives(self.slots.as_slice(), s.0) {
+            return true;
+        }
+        field_at(self.slots.as_slice(), s.0 as usize, index as usize).is_some()
     }
 
     pub fn parent(&self, s: Serial) -> Option<Serial>

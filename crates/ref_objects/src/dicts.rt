@@ -1,4 +1,4 @@
-ghost use Rattle.std.specs.Prelude.{◌≡◌, ◌<◌, ◌^◌, ◌+◌, ◌≤◌, ◌↔◌, ℕ, length, true, Some, is_some, Err, IfOk, IfErr, OnOk, OnErr, IfSome, IfNone, slice_set};
+ghost use Rattle.std.specs.Prelude.{◌≡◌, ◌<◌, ◌^◌, ◌+◌, ◌≤◌, ◌↔◌, ℕ, length, true, Some, is_some, Err, IfOk, IfErr, OnOk, OnErr, IfSome, IfNone, slice_set, ◌⊎◌};
 ghost use Rattle.std.specs.Map.{lookup};
 ghost use Rattle.variant_values.specs.Keys.{same_key, with_entry, without_entry};
 ghost use Rattle.variant_values.specs.Places.{place_of, key_place, weight};
@@ -94,6 +94,7 @@ pub fn store_entry(
     ensures full { (result ≡ Err (Trouble.Fault RunFault.HeapFull)) ↔ (67108864 < weight (slice_set (cells_of slots.old.items) x (entries_put (with_entry (entries_of (cell_at (cells_of slots.old.items) x)) key to) (cell_at (cells_of slots.old.items) x)))) }
     ensures ok { IfOk result (λ left. IsNow slots.old.items slots.new.items left (slice_set (cells_of slots.old.items) x (entries_put (with_entry (entries_of (cell_at (cells_of slots.old.items) x)) key to) (cell_at (cells_of slots.old.items) x)))) }
     ensures err { OnErr result (slots.new.items ≡ slots.old.items) }
+    ensures only { IfErr result (λ e. (e ≡ Trouble.Fault RunFault.HeapFull) ⊎ (e ≡ Trouble.NoMemory)) }
 {
     let after = weight_with(slots.as_slice(), x, &key, &to, total);
     if after > LIMIT as u128 {

@@ -1,4 +1,4 @@
-ghost use Rattle.std.specs.Prelude.{◌≡◌, ◌<◌, length, Some, None, is_some, true, false, option_copied, ◌≤◌, ◌↔◌, Err, IfOk, OnErr, slice_set};
+ghost use Rattle.std.specs.Prelude.{◌≡◌, ◌<◌, length, Some, None, is_some, true, false, option_copied, ◌≤◌, ◌↔◌, Err, IfOk, OnErr, slice_set, IfErr, ◌⊎◌};
 ghost use Rattle.variant_values.specs.Heaps.{knows, cell_at, field_in, field_put};
 ghost use Rattle.std.specs.Option.{option_map};
 ghost use Rattle.variant_values.specs.Places.{item_weight, weight};
@@ -68,6 +68,7 @@ pub fn store_field(
     ensures full { (result ≡ Err (Trouble.Fault RunFault.HeapFull)) ↔ ((lives slots.old.items x ≡ true) × (67108864 < weight (slice_set (cells_of slots.old.items) x (field_put index to (cell_at (cells_of slots.old.items) x))))) }
     ensures ok { IfOk result (λ left. IsNow slots.old.items slots.new.items left (slice_set (cells_of slots.old.items) x (field_put index to (cell_at (cells_of slots.old.items) x)))) }
     ensures err { OnErr result (slots.new.items ≡ slots.old.items) }
+    ensures only { IfErr result (λ e. (e ≡ Trouble.Fault RunFault.FreedAccess) ⊎ (e ≡ Trouble.Fault RunFault.HeapFull)) }
 {
     let Some(light) = field_weight(slots.as_slice(), x, index) else {
         return Err(Trouble::Fault(RunFault::FreedAccess));

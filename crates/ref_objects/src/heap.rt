@@ -10,7 +10,7 @@ ghost use Rattle.variant_values.specs.Sound.{IsSound};
 ghost use Rattle.variant_values.specs.Links.{connections_of, connections_in, is_connection, targets_of, connected, disconnected};
 ghost use Rattle.variant_values.specs.Trees.{IsUnder, IsFreed, is_node, parent_of, with_child, with_name, with_queued};
 
-use crate::allocate::add_cell;
+use crate::allocate::{LIMIT, add_cell};
 use crate::arrays::store_splice;
 use crate::counts::{lower, place_of, raise};
 use crate::dicts::{drop_entry, store_entry};
@@ -87,6 +87,7 @@ impl Heap {
         ensures full { (result ≡ Err (Trouble.Fault RunFault.HeapFull)) ↔ ((is_living self.old.cells of.0 ≡ true) × (67108864 < weight (with_field self.old of.0 index to).cells)) }
         ensures ok { OnOk result (self.new ≡ with_field self.old of.0 index to) }
         ensures err { OnErr result (self.new ≡ self.old) }
+        ensures only { IfErr result (λ e. (e ≡ Trouble.Fault RunFault.FreedAccess) ⊎ (e ≡ Trouble.Fault RunFault.HeapFull)) }
     {
         self.total = store_field(
             &mut self.slots,
@@ -143,10 +144,20 @@ impl Heap {
         ensures serial { IfOk result (λ s. s.0 ≡ length self.old.cells) }
         ensures ok { OnOk result (self.new ≡ with_new self.old cell) }
         ensures err { OnErr result (self.new ≡ self.old) }
+        ensures only { IfErr result (λ e. (e ≡ Trouble.Fault RunFault.HeapFull) ⊎ (e ≡ Trouble.NoMemory)) }
     {
         let serial = Serial(self.slots.len() as u64);
         self.total = add_cell(&mut self.slots, cell, self.total)?;
         Ok(serial)
+    }
+
+    /// How much more the cells may weigh.
+    pub fn room(&self) -> u64
+        ensures room { result + weight self.now.cells ≡ 67108864 }
+        ensures few { length self.now.cells < 2 ^ 63 }
+    {
+        let _count = self.slots.len();
+        LIMIT - self.total
     }
 
     /// What is true of every heap.
@@ -206,6 +217,7 @@ impl Heap {
         ensures full { (result ≡ Err (Trouble.Fault RunFault.HeapFull)) ↔ (connections_in self.old.cells ≡ 4294967295) }
         ensures ok { OnOk result (self.new ≡ connected self.old from.0 (record { signal = signal.now; target = to; method = method.now })) }
         ensures err { OnErr result (self.new ≡ self.old) }
+        ensures only { IfErr result (λ e. (e ≡ Trouble.Fault RunFault.HeapFull) ⊎ (e ≡ Trouble.NoMemory)) }
     {
         if count_links(self.slots.as_slice()) == 4_294_967_295 {
             return Err(Trouble::Fault(RunFault::HeapFull));
@@ -278,6 +290,7 @@ impl Heap {
         ensures full { (result ≡ Err (Trouble.Fault RunFault.HeapFull)) ↔ (67108864 < weight (with_entry_at self.old of.0 key to).cells) }
         ensures ok { OnOk result (self.new ≡ with_entry_at self.old of.0 key to) }
         ensures err { OnErr result (self.new ≡ self.old) }
+        ensures only { IfErr result (λ e. (e ≡ Trouble.Fault RunFault.HeapFull) ⊎ (e ≡ Trouble.NoMemory)) }
     {
         self.total = store_entry(&mut self.slots, of.0 as usize, key, to, self.total)?;
         Ok(())
@@ -313,6 +326,7 @@ impl Heap {
         ensures full { (result ≡ Err (Trouble.Fault RunFault.HeapFull)) ↔ (67108864 < weight (with_splice self.old of.0 at out put.items).cells) }
         ensures ok { OnOk result (self.new ≡ with_splice self.old of.0 at out put.items) }
         ensures err { OnErr result (self.new ≡ self.old) }
+        ensures only { IfErr result (λ e. (e ≡ Trouble.Fault RunFault.HeapFull) ⊎ (e ≡ Trouble.NoMemory)) }
     {
         self.total = store_splice(
             &mut self.slots,

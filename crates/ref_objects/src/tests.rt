@@ -1,7 +1,10 @@
 //! What stays and what goes, worked out by hand, and each call once with ample memory.
 ghost use Rattle.std.specs.Prelude.{◌≡◌, ◌∷◌, [], IfOk};
 
+mod shown;
+
 use crate::heap::Heap;
+use shown::shown;
 use std::process::Abort;
 use std::test::Fail;
 use variant_values::cells::{Cell, Connections, NodePart, ObjectCell, Serials, Values};
@@ -36,6 +39,25 @@ fn add_counted(
     field: Value,
 ) -> Result<Serial, Fail> {
     let lineage = lineage(rt, ClassTag::RefCounted)?;
+    let mut fields = Vec::new(rt.alloc());
+    fields.push(field)?;
+    assert!(rt; heap.knows_all(fields.as_slice()));
+    let cell = Cell::Object(ObjectCell {
+        lineage,
+        fields: Values::of(fields),
+        connections: Connections::new(rt.alloc()),
+        node: None,
+    });
+    Ok(heap.new_cell(cell)?)
+}
+
+// An object with one field that is not counted.
+fn add_uncounted(
+    rt: &(impl Abort + AllocGlobal),
+    heap: &mut Heap,
+    field: Value,
+) -> Result<Serial, Fail> {
+    let lineage = lineage(rt, ClassTag::Object)?;
     let mut fields = Vec::new(rt.alloc());
     fields.push(field)?;
     assert!(rt; heap.knows_all(fields.as_slice()));
@@ -126,6 +148,12 @@ fn adopt(rt: &impl Abort, heap: &mut Heap, parent: Serial, child: Serial) -> Res
     Ok(())
 }
 
+fn queue(rt: &impl Abort, heap: &mut Heap, of: Serial) -> Result<(), Fail> {
+    assert!(rt; heap.is_node(of));
+    heap.queue_node(of)?;
+    Ok(())
+}
+
 #[test]
 fn an_array_that_holds_itself_stays(rt: HostRuntime) -> Result<(), Fail> {
     let mut heap = Heap::new(rt.alloc())?;
@@ -193,7 +221,7 @@ fn a_subtree_goes_at_once(rt: HostRuntime) -> Result<(), Fail> {
     assert_eq!(rt; targets.len(), 1);
     assert_eq!(rt; targets[0].0, root);
     assert_eq!(rt; heap.children(root), 1);
-    assert_eq!(rt; free(&rt, &mut heap, top), Err(RunFault::FreedAccess));
+    refuses_what_has_gone(&rt, &mut heap, top)?;
     Ok(())
 }
 
@@ -203,28 +231,183 @@ fn free(rt: &impl Abort, heap: &mut Heap, of: Serial) -> Result<(), RunFault> {
     heap.free_node(of)
 }
 
+const FULL: Trouble = Trouble::Fault(RunFault::HeapFull);
+
+/// Puts so many copies of a text into an array.
+fn push_copies(
+    rt: &(impl Abort + AllocGlobal),
+    heap: &mut Heap,
+    of: Serial,
+    text: &Str,
+    n: u32,
+) -> Result<(), Fail> {
+    for _ in 0..n {
+        push(rt, heap, of, Value::Str(text.clone()?))??;
+    }
+    Ok(())
+}
+
+/// Values that want room and hold a cell, whose count is not to rise where they are refused.
+fn cell_and_text(rt: &impl AllocGlobal, cell: Serial, text: &Str) -> Result<Vec<Value>, Fail> {
+    let mut values = Vec::new(rt.alloc());
+    values.push(Value::Array(cell))?;
+    values.push(Value::Str(text.clone()?))?;
+    Ok(values)
+}
+
+/// In the place of one text, an array has no room for two.
+fn refuses_items(
+    rt: &(impl Abort + AllocGlobal),
+    heap: &mut Heap,
+    of: Serial,
+    text: &Str,
+) -> Result<(), Fail> {
+    let before = shown(rt.alloc(), heap)?;
+    let mut put = cell_and_text(rt, of, text)?;
+    put.push(Value::Str(text.clone()?))?;
+    assert!(rt; heap.is_array(of));
+    assert!(rt; 0 < heap.items_len(of));
+    assert!(rt; heap.knows_all(put.as_slice()));
+    assert_eq!(rt; heap.splice(of, 0, 1, put), Err(FULL));
+    assert_eq!(rt; shown(rt.alloc(), heap)?, before);
+    Ok(())
+}
+
+fn refuses_field(
+    rt: &(impl Abort + AllocGlobal),
+    heap: &mut Heap,
+    of: Serial,
+    text: &Str,
+) -> Result<(), Fail> {
+    let before = shown(rt.alloc(), heap)?;
+    assert_eq!(rt;
+        put_field(rt, heap, of, Value::Str(text.clone()?)),
+        Err(FULL)
+    );
+    assert_eq!(rt; shown(rt.alloc(), heap)?, before);
+    Ok(())
+}
+
+fn refuses_entry(
+    rt: &(impl Abort + AllocGlobal),
+    heap: &mut Heap,
+    of: Serial,
+    key: Key,
+    text: &Str,
+) -> Result<(), Fail> {
+    let before = shown(rt.alloc(), heap)?;
+    let value = Value::Str(text.clone()?);
+    assert_eq!(rt; put_entry(rt, heap, of, key, value), Err(FULL));
+    assert_eq!(rt; shown(rt.alloc(), heap)?, before);
+    Ok(())
+}
+
+fn refuses_cell(
+    rt: &(impl Abort + AllocGlobal),
+    heap: &mut Heap,
+    held: Serial,
+    text: &Str,
+) -> Result<(), Fail> {
+    let before = shown(rt.alloc(), heap)?;
+    let items = cell_and_text(rt, held, text)?;
+    assert!(rt; heap.knows_all(items.as_slice()));
+    let cell = Cell::Array(Values::of(items), None);
+    assert_eq!(rt; heap.new_cell(cell), Err(FULL));
+    assert_eq!(rt; shown(rt.alloc(), heap)?, before);
+    Ok(())
+}
+
 #[test]
 fn a_full_heap_takes_no_more(rt: HostRuntime) -> Result<(), Fail> {
     let mut heap = Heap::new(rt.alloc())?;
     let s = add_array(&rt, &mut heap)?;
-    let o = add_counted(&rt, &mut heap, Value::Null)?;
+    let o = add_counted(&rt, &mut heap, Value::Array(s))?;
     let d = add_dict(&rt, &mut heap)?;
+    put_entry(&rt, &mut heap, d, Key::Int(7), Value::Array(s))?;
+    let n = add_node(&rt, &mut heap)?;
+    queue(&rt, &mut heap, n)?;
     // 63 texts of 1,048,576 bytes leave room for less than one more.
     let text = Str::new(rt.alloc(), "é".repeat(rt.alloc(), 524_288)?.as_str())?;
-    for _ in 0..63 {
-        push(&rt, &mut heap, s, Value::Str(text.clone()?))??;
+    push_copies(&rt, &mut heap, s, &text, 63)?;
+    refuses_items(&rt, &mut heap, s, &text)?;
+    refuses_field(&rt, &mut heap, o, &text)?;
+    refuses_entry(&rt, &mut heap, d, Key::Object(o), &text)?;
+    refuses_entry(&rt, &mut heap, d, Key::Int(7), &text)?;
+    refuses_cell(&rt, &mut heap, s, &text)?;
+    // What weighs less than the room that is left is still taken.
+    push(&rt, &mut heap, s, Value::Int(5))??;
+    assert_eq!(rt; heap.items_len(s), 64);
+    Ok(())
+}
+
+fn read_field(
+    rt: &(impl Abort + AllocGlobal),
+    heap: &Heap,
+    of: Serial,
+) -> Result<Result<i64, RunFault>, Fail> {
+    assert!(rt; heap.knows_object(of));
+    assert!(rt; heap.has_field(of, 0));
+    match heap.field(of, 0) {
+        Ok(Value::Int(n)) => Ok(Ok(*n)),
+        Ok(_) => Err(Fail::from("no number")),
+        Err(fault) => Ok(Err(fault)),
     }
-    let full = Err(Trouble::Fault(RunFault::HeapFull));
-    assert_eq!(rt; push(&rt, &mut heap, s, Value::Str(text.clone()?))?, full);
-    assert_eq!(rt; heap.items_len(s), 63);
+}
+
+fn refuses_what_has_gone(
+    rt: &(impl Abort + AllocGlobal),
+    heap: &mut Heap,
+    of: Serial,
+) -> Result<(), Fail> {
+    let before = shown(rt.alloc(), heap)?;
+    let gone = Err(Trouble::Fault(RunFault::FreedAccess));
+    assert_eq!(rt; put_field(rt, heap, of, Value::Int(1)), gone);
+    assert_eq!(rt; shown(rt.alloc(), heap)?, before);
+    assert_eq!(rt; read_field(rt, heap, of)?, Err(RunFault::FreedAccess));
+    assert_eq!(rt; free(rt, heap, of), Err(RunFault::FreedAccess));
+    assert_eq!(rt; shown(rt.alloc(), heap)?, before);
+    Ok(())
+}
+
+fn removes_nothing(
+    rt: &(impl Abort + AllocGlobal),
+    heap: &mut Heap,
+    dict: Serial,
+    node: Serial,
+) -> Result<(), Fail> {
+    let before = shown(rt.alloc(), heap)?;
+    assert!(rt; heap.is_dict(dict));
+    assert!(rt; !heap.remove_entry(dict, &Key::Int(1)));
+    assert_eq!(rt; shown(rt.alloc(), heap)?, before);
+    let signal = Str::new(rt.alloc(), "s")?;
+    let method = Str::new(rt.alloc(), "other")?;
+    assert!(rt; heap.is_object(node));
+    assert!(rt; !heap.remove_connection(node, &signal, node, &method));
+    assert_eq!(rt; shown(rt.alloc(), heap)?, before);
+    Ok(())
+}
+
+#[test]
+fn what_has_gone_refuses_and_changes_nothing(rt: HostRuntime) -> Result<(), Fail> {
+    let mut heap = Heap::new(rt.alloc())?;
+    let o = add_uncounted(&rt, &mut heap, Value::Int(40))?;
+    assert_eq!(rt; read_field(&rt, &heap, o)?, Ok(40));
+    put_field(&rt, &mut heap, o, Value::Int(41))?;
+    assert_eq!(rt; read_field(&rt, &heap, o)?, Ok(41));
+    let n = add_node(&rt, &mut heap)?;
+    let d = add_dict(&rt, &mut heap)?;
+    put_entry(&rt, &mut heap, d, Key::Object(o), Value::Object(o))?;
+    connect(&rt, &mut heap, n, n)?;
+    queue(&rt, &mut heap, n)?;
+    hold(&rt, &mut heap, &Value::Object(n));
+    hold(&rt, &mut heap, &Value::Dict(d));
+    free(&rt, &mut heap, o)?;
     assert_eq!(rt;
-        put_field(&rt, &mut heap, o, Value::Str(text.clone()?)),
-        full
+        shown(rt.alloc(), &heap)?.as_str(),
+        "gone\ngone\n1 s>2.m node  \n1 object1: object1 \nqueued2 "
     );
-    assert_eq!(rt;
-        put_entry(&rt, &mut heap, d, Key::Int(1), Value::Str(text.clone()?)),
-        full
-    );
+    refuses_what_has_gone(&rt, &mut heap, o)?;
+    removes_nothing(&rt, &mut heap, d, n)?;
     Ok(())
 }
 
@@ -256,7 +439,6 @@ fn a_present_key_keeps_its_place(rt: HostRuntime) -> Result<(), Fail> {
     let first = entries.entry_at(0);
     assert!(rt; matches!(first, (Key::Int(1), Value::Int(3))));
     assert!(rt; heap.is_dict(d));
-    assert!(rt; heap.knows_key(&Key::Int(2)));
     assert!(rt; heap.remove_entry(d, &Key::Int(2)));
     assert!(rt; heap.is_dict(d));
     assert!(rt; !heap.remove_entry(d, &Key::Int(2)));
@@ -269,8 +451,7 @@ fn names_queue_and_weak_references(rt: HostRuntime) -> Result<(), Fail> {
     let n = add_node(&rt, &mut heap)?;
     assert!(rt; heap.is_node(n));
     heap.set_name(n, Str::new(rt.alloc(), "lamp")?);
-    assert!(rt; heap.is_node(n));
-    heap.queue_node(n)?;
+    queue(&rt, &mut heap, n)?;
     assert_eq!(rt; heap.queued(), [n].as_slice());
     assert!(rt; heap.knows_object(n));
     assert!(rt; matches!(heap.weak_get(n), Value::Object(_)));

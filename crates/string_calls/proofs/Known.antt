@@ -14,8 +14,8 @@ use Rattle.variant_values.specs.declared.faults.Trouble.{Trouble}
 use Rattle.variant_values.specs.declared.string_methods.StrMethod.{StrMethod}
 use Rattle.variant_values.specs.declared.string_methods.StrMethod.TheVariants.{Length, IsEmpty, Substr, Left, Right, Find, Contains, BeginsWith, EndsWith, Replace, Split, Join, Repeat, ToUpper, ToLower, StripEdges, IsValidInt, ToInt, UnicodeAt}
 use Rattle.variant_values.specs.Operators.{Outcome}
-use Rattle.variant_values.specs.StringMethods.{with_given, string_result, int_result, code_point, string_value, one_given, two_given, one_or_two_given, string_in, int_in, count_in, span_in, array_in, join_value, kept, placed_array, parts, split_array, split_call, string_call_of}
-use Rattle.string_calls.specs.Writes.{CallAnswers}
+use Rattle.variant_values.specs.StringMethods.{with_given, string_result, int_result, code_point, string_value, one_given, two_given, one_or_two_given, string_in, int_in, count_in, span_in, array_in, join_value, parts, split_array, split_call, string_call_of}
+use Rattle.variant_values.specs.Changes.{Given, HasGiven, looked, new_array}
 use Rattle.string_calls.specs.Plain.{is_plain}
 
 pub knows_plain : (cells : List (Option Cell)) (v : Value) → is_plain v ≡ true → knows cells v ≡ true
@@ -103,7 +103,7 @@ plain_join : (cells : List (Option Cell)) (text : List ℕ) (args : List Value) 
 plain_join cells text args = plain_given (one_given array_in args) _ (λ s. plain_if _ _ _ (plain_string _) (plain_fault _))
 
 -- what a call gives is known in the heap after it
-IsKnown : Result (Value × Heap) RunFault → Type 0
+IsKnown : Given → Type 0
 IsKnown (Ok (v, h)) = knows h.cells v ≡ true
 IsKnown (Err fault) = Unit {0}
 
@@ -115,16 +115,16 @@ known_fault : (fault : RunFault) → IsKnown (Err fault)
 unfolding IsKnown
 known_fault fault = tt
 
-known_kept : (h : Heap) (o : Outcome) → IsPlain o → IsKnown (kept h o)
+known_kept : (h : Heap) (o : Outcome) → IsPlain o → IsKnown (looked h o)
 unfolding IsPlain
 known_kept h (Ok v) plain = known_value v h (knows_plain h.cells v plain)
 known_kept h (Err fault) plain = known_fault fault
 
-known_given : {A : Type 0} (o : Option A) (f : A → Result (Value × Heap) RunFault) → ((a : A) → IsKnown (f a)) → IsKnown (with_given o f)
+known_given : {A : Type 0} (o : Option A) (f : A → Given) → ((a : A) → IsKnown (f a)) → IsKnown (with_given o f)
 known_given None f h = known_fault BadArgs
 known_given (Some a) f h = h a
 
-known_if : (b : Bool) (x y : Result (Value × Heap) RunFault) → IsKnown x → IsKnown y → IsKnown (if b then x else y)
+known_if : (b : Bool) (x y : Given) → IsKnown x → IsKnown y → IsKnown (if b then x else y)
 known_if true x y h k = h
 known_if false x y h k = k
 
@@ -132,7 +132,7 @@ last_cell : (cells : List (Option Cell)) (c : Cell) → slice_index_or (cells ++
 last_cell [] c = refl
 last_cell (x ∷ xs) c = last_cell xs c
 
-known_placed : (h : Heap) (items : List Value) → IsKnown (placed_array h items)
+known_placed : (h : Heap) (items : List Value) → IsKnown (new_array h items None)
 known_placed h items = known_if _ _ _ (known_value _ _ (ap is_array (last_cell h.cells (ArrayCell items None)))) (known_fault _)
 
 known_array : (h : Heap) (texts : List (List ℕ)) → IsKnown (split_array h texts)
@@ -162,7 +162,7 @@ known_call h IsValidInt text args = known_kept h _ (plain_method IsValidInt text
 known_call h ToInt text args = known_kept h _ (plain_method ToInt text args)
 known_call h UnicodeAt text args = known_kept h _ (plain_method UnicodeAt text args)
 
-pub known_answer : (old new : Heap) (method : StrMethod) (text : List ℕ) (args : List Value) (r : Result Value Trouble) → CallAnswers old new r (string_call_of old method text args) → IfOk r (λ v. knows new.cells v ≡ true)
+pub known_answer : (old new : Heap) (method : StrMethod) (text : List ℕ) (args : List Value) (r : Result Value Trouble) → HasGiven r old new (string_call_of old method text args) → IfOk r (λ v. knows new.cells v ≡ true)
 unfolding IsKnown
 known_answer old new method text args (Ok v) h = subst IsKnown h (known_call old method text args)
 known_answer old new method text args (Err e) h = tt

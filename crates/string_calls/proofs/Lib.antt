@@ -5,3 +5,4 @@ pub mod Numerals
 pub mod Parting
 pub mod Known
 pub mod Drafting
+mod Needles

@@ -38,19 +38,6 @@ place_missing what (b ∷ bs) lacks =
     ap (option_map (λ n. suc n)) (place_missing what bs (λ k within. lacks (suc k) (omega arith)))
     ∙ sym (ap (λ t. if t then Some 0 else option_map (λ n. suc n) (first_place what bs)) (starts-no (b ∷ bs) what (lacks 0 (omega arith))))
 
-pub find_is_place : (what text : List ℕ) (r : Option ℕ) → MatchOption r (FindsText what text None) (MatchBeginsAt (FindsText what) text) → r ≡ first_place what text
-find_is_place what text None h = place_missing what text h
-find_is_place what text (Some i) h = let finds = h.1 in place_found what text _ i (omega (arith, h.3)) finds.1.split finds.0
-
-pub splits_at_place : (by text : List ℕ) (r : Option (Bor (List ℕ) × Bor (List ℕ))) → MatchOption r (FindsText by text None) (λ x. SplitsAroundMatch (FindsText by) text x.0.now x.1.now) → option_map {U = List ℕ × List ℕ} (λ p. (p.0.now, p.1.now)) r ≡ first_split by text
-splits_at_place by text None h = ap (option_map (λ place. (take place text, drop (place + length by) text))) (place_missing by text h)
-splits_at_place by text (Some x) h =
-    let i = h.0 in
-    let finds = h.2 in
-    let place : Some i ≡ first_place by text = place_found by text _ i (omega (arith, h.5, h.7)) finds.1.split finds.0 in
-    let parts : (x.0.now, x.1.now) ≡ (take i text, drop (i + length by) text) = cc (h.3, h.4, ap (λ j. drop j text) finds.1.ends) in
-    ap Some parts ∙ ap (option_map (λ place. (take place text, drop (place + length by) text))) place
-
 -- ---- parts
 
 pub place_or_none : (o : Option ℕ) (P : Option ℕ → Type 0) → (o ≡ None → P None) → ((k : ℕ) → o ≡ Some k → P (Some k)) → P o

@@ -19,21 +19,6 @@ Writes old new (Ok a) text = new ≡ old ++ text
 Writes old new (Err (Fault fault)) text = (fault ≡ TooLong) × (longest < length (old ++ text))
 Writes old new (Err NoMemory) text = Unit {0}
 
--- what is left of a room for items after a walk comes to so many
-abbrev pub left_after : ℕ → Option ℕ → Option ℕ
-left_after room None = None
-left_after room (Some n) = room_left room n
-
--- each array and dictionary that the entries name lives, and each object lives or has gone
-abbrev pub KnowsEntries : List (Option Cell) → List (Key × Value) → Type 0
-KnowsEntries cells es = All (λ e. (knows_key cells e.0 ≡ true) × (knows cells e.1 ≡ true)) es
-
--- A call on the heap gives a value and leaves the heap as it should, or a fault and the heap as it was, or memory ran out.
-abbrev pub CallAnswers : Heap → Heap → Result Value Trouble → Result (Value × Heap) RunFault → Type 0
-CallAnswers old new (Ok v) outcome = outcome ≡ Ok (v, new)
-CallAnswers old new (Err (Fault fault)) outcome = (outcome ≡ Err fault) × (new ≡ old)
-CallAnswers old new (Err NoMemory) outcome = Unit {0}
-
 -- the values are the strings of the texts, or the texts are more than an array may have items
 abbrev pub FindsParts : Result (List Value) Trouble → List (List ℕ) → Type 0
 FindsParts (Ok found) texts = (found ≡ map (λ t. Str t) texts) × (length texts ≤ most_items)

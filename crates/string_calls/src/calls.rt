@@ -2,34 +2,24 @@
 ghost use Rattle.std.specs.Prelude.{◌≡◌, true, IfOk};
 ghost use Rattle.variant_values.specs.Heaps.{knows, KnowsAll};
 ghost use Rattle.variant_values.specs.Operators.{Answers};
-ghost use Rattle.variant_values.specs.StringMethods.{placed_array, split_call, string_value, string_call_of};
-ghost use Rattle.string_calls.specs.Writes.{CallAnswers};
+ghost use Rattle.variant_values.specs.Changes.{HasGiven, Keeps};
+ghost use Rattle.variant_values.specs.StringMethods.{split_call, string_value, string_call_of};
 
-use crate::arguments::one_string;
 use crate::joins::{join, parts, replace};
 use crate::methods;
 use crate::methods::BAD_ARGS;
+use call_support::arguments::one_string;
+use call_support::changes::new_array;
 use ref_objects::heap::Heap;
 use std::alloc::Global;
-use variant_values::cells::{Cell, Values};
-use variant_values::faults::{RunFault, Trouble};
+use variant_values::faults::Trouble;
 use variant_values::string_methods::StrMethod;
 use variant_values::texts::Str;
 use variant_values::values::Value;
 
-fn placed_array(heap: &mut Heap, items: Values) -> Result<Value, Trouble>
-    requires { KnowsAll heap.old.cells items }
-    ensures { CallAnswers heap.old heap.new result (placed_array heap.old items) }
-{
-    match heap.new_cell(Cell::Array(items, None)) {
-        Ok(serial) => Ok(Value::Array(serial)),
-        Err(Trouble::Fault(RunFault::HeapFull)) => Err(Trouble::Fault(RunFault::HeapFull)),
-        Err(_) => Err(Trouble::NoMemory),
-    }
-}
-
 fn split(alloc: Global, heap: &mut Heap, of: &Str, args: &[Value]) -> Result<Value, Trouble>
-    ensures { CallAnswers heap.old heap.new result (split_call heap.old of.now args.now) }
+    ensures given { HasGiven result heap.old heap.new (split_call heap.old of.now args.now) }
+    ensures keeps { Keeps heap.old.cells heap.new.cells }
 {
     let Some(by) = one_string(args) else {
         return Err(BAD_ARGS);
@@ -38,7 +28,7 @@ fn split(alloc: Global, heap: &mut Heap, of: &Str, args: &[Value]) -> Result<Val
         return Err(BAD_ARGS);
     }
     let items = parts(alloc, of.as_str(), by.as_str())?;
-    placed_array(heap, items)
+    new_array(heap, items.items, None)
 }
 
 /// Those that look at strings and numbers alone.
@@ -80,7 +70,8 @@ fn answer(
     args: &[Value],
 ) -> Result<Value, Trouble>
     requires { KnowsAll heap.old.cells args.now }
-    ensures { CallAnswers heap.old heap.new result (string_call_of heap.old method of.now args.now) }
+    ensures given { HasGiven result heap.old heap.new (string_call_of heap.old method of.now args.now) }
+    ensures keeps { Keeps heap.old.cells heap.new.cells }
 {
     match method {
         StrMethod::Split => split(alloc, heap, of, args),
@@ -102,7 +93,8 @@ pub fn string_call(
     args: &[Value],
 ) -> Result<Value, Trouble>
     requires { KnowsAll heap.old.cells args.now }
-    ensures answer { CallAnswers heap.old heap.new result (string_call_of heap.old method of.now args.now) }
+    ensures given { HasGiven result heap.old heap.new (string_call_of heap.old method of.now args.now) }
+    ensures keeps { Keeps heap.old.cells heap.new.cells }
     ensures known { IfOk result (λ v. knows heap.new.cells v ≡ true) }
 {
     answer(alloc, heap, method, of, args)

@@ -7,13 +7,13 @@ ghost use Rattle.string_calls.specs.Directives.{directive_of};
 ghost use Rattle.string_calls.specs.Drafts.{Grows, Fills, Takes};
 ghost use Rattle.variant_values.specs.Formats.{character_in, coded, format_result, format_value, formatted_after, formatted_value, number_in, number_text, padded_text, plain};
 
-use crate::arguments::natural;
 use crate::builders::StringBuilder;
 use crate::directives::{Conversion, Directive, directive_at};
 use crate::pieces::{number_text, padded_text};
 use crate::searches::{begins_with, count_chars, split_first};
 use crate::texts::text_of;
-use crate::walks::items_of;
+use call_support::arguments::natural;
+use call_support::views::items;
 use ref_objects::heap::Heap;
 use std::alloc::{AllocError, Global};
 use std::slice;
@@ -284,7 +284,7 @@ pub fn format_text(
     ensures { Answers result (format_value heap.now.cells names.now pattern.now arg.now) }
 {
     match arg {
-        Value::Array(s) => format_values(alloc, heap, pattern, items_of(heap, *s), names),
+        Value::Array(s) => format_values(alloc, heap, pattern, items(heap, *s), names),
         _ => format_values(alloc, heap, pattern, slice::from_ref(arg), names),
     }
 }

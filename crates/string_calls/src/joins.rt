@@ -7,11 +7,12 @@ ghost use Rattle.variant_values.specs.StringMethods.{join_items, join_value, mad
 ghost use Rattle.string_calls.specs.Writes.{Writes, FindsParts, PushesPart};
 ghost use Rattle.variant_values.specs.declared.string_methods.StrMethod.TheVariants.{Replace};
 
-use crate::arguments::two_strings;
 use crate::builders::StringBuilder;
 use crate::methods::BAD_ARGS;
 use crate::searches::split_first;
-use crate::walks::{MOST_ITEMS, items_of};
+use call_support::arguments::two_strings;
+use call_support::views::items;
+use call_support::walks::MOST_ITEMS;
 use ref_objects::heap::Heap;
 use std::alloc::Global;
 use variant_values::cells::Values;
@@ -80,7 +81,7 @@ pub fn join(alloc: Global, heap: &Heap, of: &Str, args: &[Value]) -> Result<Valu
     ensures { Answers result (join_value heap.now.cells of.now args.now) }
 {
     match args {
-        [Value::Array(s)] => join_items(alloc, of.as_str(), items_of(heap, *s)),
+        [Value::Array(s)] => join_items(alloc, of.as_str(), items(heap, *s)),
         _ => Err(BAD_ARGS),
     }
 }

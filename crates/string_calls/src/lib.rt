@@ -1,7 +1,6 @@
 //! Methods of strings, texts of values and formats.
 #![tactic(auto)]
 
-mod arguments;
 mod builders;
 pub mod calls;
 mod directives;
@@ -18,6 +17,5 @@ mod tests;
 #[cfg(test)]
 mod text_tests;
 pub mod texts;
-mod walks;
 #[cfg(test)]
 mod worlds;

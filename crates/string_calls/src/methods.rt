@@ -5,12 +5,12 @@ ghost use Rattle.variant_values.specs.Operators.{Answers};
 ghost use Rattle.variant_values.specs.StringMethods.{string_value, made, spelled, span_at};
 ghost use Rattle.variant_values.specs.declared.string_methods.StrMethod.TheVariants.{Length, IsEmpty, Substr, Left, Right, Find, Contains, BeginsWith, EndsWith, Replace, Repeat, ToUpper, ToLower, StripEdges, IsValidInt, ToInt, UnicodeAt};
 
-use crate::arguments::{
-    count_and_span, is_none_given, one_count, one_int, one_string, string_and_count, two_strings,
-};
 use crate::edges::{is_whole_number, whole_number, without_back, without_front};
 use crate::searches::{
     begins_with, char_at, count_chars, ends_with, first_place, place_from, split_chars,
+};
+use call_support::arguments::{
+    count_and_span, is_none_given, one_count, one_int, one_string, string_and_count, two_strings,
 };
 use std::alloc::Global;
 use variant_values::faults::{RunFault, Trouble};

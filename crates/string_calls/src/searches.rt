@@ -3,7 +3,8 @@ ghost use Rattle.std.specs.Prelude.{◌≡◌, ◌≤◌, ◌+◌, length, take,
 ghost use Rattle.std.specs.List.{starts_with, ends_with};
 ghost use Rattle.variant_values.specs.StringMethods.{first_place, first_split, spelled, place_from, chars_before, char_at};
 
-use crate::arguments::natural;
+use call_support::arguments::natural;
+use memchr::memmem;
 
 pub fn count_chars(text: &str) -> usize
     ensures chars { result ≡ length (chars text.now) }
@@ -37,9 +38,11 @@ pub fn split_chars(text: &str, n: usize) -> (&str, &str)
 /// The byte at which a text first stands in another.
 pub fn first_place(text: &str, what: &str) -> Option<usize>
     ensures place { result ≡ first_place what.now text.now }
-    ensures boundary { IfSome result (λ i. IsCharBoundary text.now i) }
+    ensures start { IfSome result (λ i. IsCharBoundary text.now i) }
+    ensures end { IfSome result (λ i. IsCharBoundary text.now (i + length what.now)) }
+    ensures within { IfSome result (λ i. i + length what.now ≤ length text.now) }
 {
-    text.find(what)
+    memmem::find(text.as_bytes(), what.as_bytes())
 }
 
 /// The place in characters where a text first stands in another, from a place on.
@@ -82,7 +85,10 @@ pub fn split_first<'a>(text: &'a str, by: &str) -> Option<(&'a str, &'a str)>
     ensures utf8 { IfSome result (λ p. IsUtf8 p.1.now) }
     ensures shorter { IfSome result (λ p. length p.1.now + length by.now ≤ length text.now) }
 {
-    text.split_once(by)
+    let place = first_place(text, by)?;
+    let (before, _) = text.split_at(place);
+    let (_, after) = text.split_at(place + by.len());
+    Some((before, after))
 }
 
 pub fn begins_with(text: &str, what: &str) -> bool

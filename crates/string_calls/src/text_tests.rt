@@ -279,3 +279,35 @@ fn parts_are_too_many(rt: HostRuntime) -> Result<(), Fail> {
     assert!(rt; matches!(refused, Err(Trouble::Fault(RunFault::TooLong))));
     Ok(())
 }
+
+fn long_text(rt: &(impl Abort + AllocGlobal), count: i64) -> Result<Str, Fail> {
+    let world = World::new(rt.alloc())?;
+    Ok(text_of_call(rt, world, StrMethod::Repeat, "a", Value::Int(count))?)
+}
+
+/// Fills a heap up to the last 32 of its room: an array weighs 16, and a text in it 2 and its bytes.
+fn fill_up(rt: &(impl Abort + AllocGlobal), world: &mut World) -> Result<(), Fail> {
+    let long = long_text(rt, 1_048_576)?;
+    let mut items = Vec::new(rt.alloc());
+    for _ in 0..63 {
+        items.push(Value::Str(long.clone()?))?;
+    }
+    items.push(Value::Str(long_text(rt, 1_048_400)?))?;
+    world.add_array(rt, items)?;
+    Ok(())
+}
+
+#[test]
+fn a_full_heap_takes_no_parts(rt: HostRuntime) -> Result<(), Fail> {
+    let mut world = World::new(rt.alloc())?;
+    fill_up(&rt, &mut world)?;
+    let comma = text(&rt, ",")?;
+    let five = text_of_call(&rt, world, StrMethod::Split, "a,b,c,d,e", comma)?;
+    assert_eq!(rt; five.as_str(), "[\"a\", \"b\", \"c\", \"d\", \"e\"]");
+    let mut world = World::new(rt.alloc())?;
+    fill_up(&rt, &mut world)?;
+    let comma = text(&rt, ",")?;
+    let six = text_of_call(&rt, world, StrMethod::Split, "a,b,c,d,e,f", comma);
+    assert!(rt; matches!(six, Err(Trouble::Fault(RunFault::HeapFull))));
+    Ok(())
+}

@@ -1,13 +1,14 @@
 // Texts of values.
 ghost use Rattle.std.specs.Prelude.{◌≡◌, ◌<◌, ◌++◌, ◌∷◌, true, length, codes, decimal};
 ghost use Rattle.std.specs.List.{join_by};
-ghost use Rattle.variant_values.specs.Heaps.{knows, knows_key, knows_object, KnowsAll, cell_at};
+ghost use Rattle.variant_values.specs.Heaps.{knows, knows_key, knows_object, KnowsAll, KnowsEntries, cell_at};
 ghost use Rattle.variant_values.specs.Operators.{Answers};
 ghost use Rattle.variant_values.specs.ValueTexts.{object_text, own_name, key_text, shown, array_text, dict_text, entry_text, text_in, fitting, value_text, most_levels};
-ghost use Rattle.string_calls.specs.Writes.{Writes, KnowsEntries};
+ghost use Rattle.string_calls.specs.Writes.{Writes};
 
 use crate::builders::StringBuilder;
-use crate::walks::{MOST_LEVELS, entries_of, is_within, items_of};
+use call_support::views::{entries, items};
+use call_support::walks::{MOST_LEVELS, is_within};
 use ref_objects::heap::Heap;
 use std::alloc::Global;
 use variant_values::cells::Cell;
@@ -92,8 +93,8 @@ fn write_value(
         Value::Str(s) => out.write(s.as_str()),
         Value::Array(_) if levels == 0 => out.write("[...]"),
         Value::Dict(_) if levels == 0 => out.write("{...}"),
-        Value::Array(s) => write_array(out, heap, items_of(heap, *s), names, levels - 1),
-        Value::Dict(s) => write_dict(out, heap, entries_of(heap, *s), names, levels - 1),
+        Value::Array(s) => write_array(out, heap, items(heap, *s), names, levels - 1),
+        Value::Dict(s) => write_dict(out, heap, entries(heap, *s), names, levels - 1),
         Value::Object(s) => write_object(out, heap, *s, names),
         Value::Callable(_, method) => out.write_between("<Callable ", method.as_str(), ">"),
         Value::Signal(_, signal) => out.write_between("<Signal ", signal.as_str(), ">"),

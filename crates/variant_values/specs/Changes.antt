@@ -40,6 +40,10 @@ looked h (Err fault) = Err fault
 abbrev pub weighed : {A : Type 0} → Heap → A → Result (A × Heap) RunFault
 weighed h v = if nat_le (weight h.cells) 67108864 then Ok (v, h) else Err HeapFull
 
+-- the same, where new cells may take serials too
+abbrev pub placed : {A : Type 0} → Heap → A → Result (A × Heap) RunFault
+placed h v = if nat_le (weight h.cells) 67108864 && nat_le (length h.cells) (2 ^ 64) then Ok (v, h) else Err HeapFull
+
 -- what is given, where a container has no more than the most items
 abbrev pub counted : {A : Type 0} → ℕ → Result (A × Heap) RunFault → Result (A × Heap) RunFault
 counted n given = if nat_le n 1048576 then given else Err TooLong

@@ -58,20 +58,20 @@ same_entries same [] fs room = Ok (Some room)
 same_entries same (e ∷ es) fs room = come_to room (λ left. then_on (same_found same e.1 (lookup (same_key e.0) fs) left) (λ rest. same_entries same es fs rest))
 
 -- values of other kinds are unequal
-abbrev pub told : Option Bool → ℕ → Walk
-told None room = Ok None
-told (Some false) room = Ok None
-told (Some true) room = Ok (Some room)
+abbrev pub compared : Option Bool → ℕ → Walk
+compared None room = Ok None
+compared (Some false) room = Ok None
+compared (Some true) room = Ok (Some room)
 
 -- One cell equals itself without a look inside, and containers of other sizes are unequal without one.
 abbrev pub opened : Bool → Bool → ℕ → Walk → Walk
 opened one sized room inside = if one then Ok (Some room) else (if sized then inside else Ok None)
 
--- two values, where it is told how two arrays and two dictionaries are opened
+-- two values, where `arrays` and `dicts` open two containers
 abbrev pub same_by : List (Option Cell) → (List Value → List Value → ℕ → Walk) → (List (Key × Value) → List (Key × Value) → ℕ → Walk) → Value → Value → ℕ → Walk
 same_by cells arrays dicts (Array a) (Array b) room = opened (nat_eq a.0 b.0) (nat_eq (length (items_of (cell_at cells a.0))) (length (items_of (cell_at cells b.0)))) room (arrays (items_of (cell_at cells a.0)) (items_of (cell_at cells b.0)) room)
 same_by cells arrays dicts (Dict a) (Dict b) room = opened (nat_eq a.0 b.0) (nat_eq (length (entries_of (cell_at cells a.0))) (length (entries_of (cell_at cells b.0)))) room (dicts (entries_of (cell_at cells a.0)) (entries_of (cell_at cells b.0)) room)
-same_by cells arrays dicts v w room = told (equal v w) room
+same_by cells arrays dicts v w room = compared (equal v w) room
 
 -- the walk over two values, where so many levels of containers may be opened
 unfoldable pub same_at : List (Option Cell) → ℕ → Value → Value → ℕ → Walk

@@ -1,5 +1,5 @@
 -- The methods of dictionaries, after the Godot manual's page of Dictionary.
-use Rattle.std.specs.Prelude.{ℕ, pos, nat_eq, List, [], ◌∷◌, length, map, unwrap_or, None, is_some, Result, Ok, Err}
+use Rattle.std.specs.Prelude.{ℕ, pos, Bool, nat_eq, if◌then◌else◌, List, [], ◌∷◌, length, map, unwrap_or, None, is_some, Result, Ok, Err}
 use Rattle.std.specs.Map.{lookup}
 use Rattle.variant_values.specs.declared.faults.RunFault.{RunFault}
 use Rattle.variant_values.specs.declared.values.Key.{Key}
@@ -9,7 +9,7 @@ use Rattle.variant_values.specs.declared.values.Value.TheVariants.{Null, Bool as
 use Rattle.variant_values.specs.Heaps.{Heap, cell_at, entries_of, entries_put, with_cell, without_entry_at}
 use Rattle.variant_values.specs.Keys.{same_key, with_entry}
 use Rattle.variant_values.specs.Operators.{Outcome, truth_of, number_of}
-use Rattle.variant_values.specs.Changes.{Given, new_array, new_dict}
+use Rattle.variant_values.specs.Changes.{Given, counted, new_array, new_dict, weighed}
 
 abbrev pub entries_in : Heap → ℕ → List (Key × Value)
 entries_in h x = entries_of (cell_at h.cells x)
@@ -56,11 +56,21 @@ with_entries h x es = with_cell h x (entries_put es (cell_at h.cells x))
 abbrev pub dict_clear_of : Heap → ℕ → Given
 dict_clear_of h x = Ok (Null, with_entries h x [])
 
--- the entries with others put in after one another
-abbrev pub all_entered : List (Key × Value) → List (Key × Value) → List (Key × Value)
-all_entered es [] = es
-all_entered es (f ∷ fs) = all_entered (with_entry es f.0 f.1) fs
-
 -- `duplicate`, which leaves containers inside as they are
 abbrev pub dict_shallow_of : Heap → ℕ → Given
-dict_shallow_of h x = new_dict h (all_entered [] (entries_in h x))
+dict_shallow_of h x = new_dict h (entries_in h x)
+
+-- the entries with one more, where its key is missing
+abbrev pub with_missing : List (Key × Value) → Key × Value → List (Key × Value)
+with_missing es f = if is_some (lookup (same_key f.0) es) then es else with_entry es f.0 f.1
+
+-- the entries with others put in, one after the other; a present key keeps its place, and its value where none is overwritten
+abbrev pub merged : Bool → List (Key × Value) → List (Key × Value) → List (Key × Value)
+merged overwrite es [] = es
+merged overwrite es (f ∷ fs) = merged overwrite (if overwrite then with_entry es f.0 f.1 else with_missing es f) fs
+
+-- `merge`
+abbrev pub merge_of : Heap → ℕ → ℕ → Bool → Given
+merge_of h x y overwrite =
+    let es = merged overwrite (entries_in h x) (entries_in h y) in
+    counted (length es) (weighed (with_entries h x es) Null)

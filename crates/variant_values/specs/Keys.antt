@@ -1,8 +1,9 @@
 -- Keys of a dictionary, and its entries as a list of pairs.
-use Rattle.std.specs.Prelude.{Bool, false, cond, nat_eq, List, [], ◌∷◌}
+use Rattle.std.specs.Prelude.{◌≡◌, Bool, false, cond, nat_eq, List, [], ◌∷◌, Option, None}
 use mathlib.Core.Bool.{beq}
 use Rattle.std.specs.Ordering.{int_eq}
 use Rattle.std.specs.Cmp.Lexicographic.{pointwise}
+use Rattle.std.specs.Map.{lookup}
 use Rattle.variant_values.specs.declared.values.Key.{Key}
 use Rattle.variant_values.specs.declared.values.Key.TheVariants.{Bool as KeyTruth, Int as KeyInt, Str as KeyStr, Object as KeyObject}
 use Rattle.variant_values.specs.declared.values.Value.{Value}
@@ -24,3 +25,8 @@ with_entry (e ∷ es) k v = cond (same_key k e.0) ((e.0, v) ∷ es) (e ∷ with_
 abbrev pub without_entry : List (Key × Value) → Key → List (Key × Value)
 without_entry [] k = []
 without_entry (e ∷ es) k = cond (same_key k e.0) es (e ∷ without_entry es k)
+
+-- no key stands twice
+abbrev pub HasKeysOnce : List (Key × Value) → Type 0
+HasKeysOnce [] = Unit {0}
+HasKeysOnce (e ∷ es) = (lookup (same_key e.0) es ≡ None) × HasKeysOnce es

@@ -17,3 +17,6 @@ pub mod Operations
 pub mod Indexing
 pub mod ArrayMethods
 pub mod DictMethods
+pub mod Resizes
+pub mod Copies
+pub mod ContainerCalls

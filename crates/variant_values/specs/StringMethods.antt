@@ -9,15 +9,14 @@ use Rattle.variant_values.specs.declared.values.Serial.{Serial}
 use Rattle.variant_values.specs.declared.values.Value.{Value}
 use Rattle.variant_values.specs.declared.values.Value.TheVariants.{Int, Str, Array}
 use Rattle.variant_values.specs.declared.cells.Cell.{Cell}
-use Rattle.variant_values.specs.declared.cells.Cell.TheVariants.{Array as ArrayCell}
 use Rattle.variant_values.specs.declared.faults.RunFault.{RunFault}
-use Rattle.variant_values.specs.declared.faults.RunFault.TheVariants.{BadArgs, BadIndex, TooLong, HeapFull}
+use Rattle.variant_values.specs.declared.faults.RunFault.TheVariants.{BadArgs, BadIndex}
 use Rattle.variant_values.specs.declared.string_methods.StrMethod.{StrMethod}
 use Rattle.variant_values.specs.declared.string_methods.StrMethod.TheVariants.{Length, IsEmpty, Substr, Left, Right, Find, Contains, BeginsWith, EndsWith, Replace, Split, Join, Repeat, ToUpper, ToLower, StripEdges, IsValidInt, ToInt, UnicodeAt}
-use Rattle.variant_values.specs.Places.{weight, cell_weight}
-use Rattle.variant_values.specs.Heaps.{Heap, cell_at, items_of, with_new}
+use Rattle.variant_values.specs.Changes.{Given, counted, looked, new_array}
+use Rattle.variant_values.specs.Heaps.{Heap, cell_at, items_of}
 use Rattle.variant_values.specs.Operators.{Outcome, truth_of, number_of, is_text}
-use Rattle.variant_values.specs.ValueTexts.{fitting, most_items}
+use Rattle.variant_values.specs.ValueTexts.{fitting}
 
 -- ---- arguments
 
@@ -226,25 +225,14 @@ join_items separator items = if list_all is_text items then made (join_by plain_
 abbrev pub join_value : List (Option Cell) → List ℕ → List Value → Outcome
 join_value cells text args = with_given (one_given array_in args) (λ s. join_items text (items_of (cell_at cells s.0)))
 
--- a new array, and the heap with it
-abbrev pub placed_array : Heap → List Value → Result (Value × Heap) RunFault
-placed_array h items =
-    let cell = ArrayCell items None in
-    if nat_le (weight h.cells + cell_weight cell) 67108864 && not (length h.cells == 2 ^ 64) then Ok (Array (record { 0 = length h.cells }), with_new h cell) else Err HeapFull
+abbrev pub split_array : Heap → List (List ℕ) → Given
+split_array h texts = counted (length texts) (new_array h (map (λ t. Str t) texts) None)
 
-abbrev pub split_array : Heap → List (List ℕ) → Result (Value × Heap) RunFault
-split_array h texts = if nat_le (length texts) most_items then placed_array h (map (λ t. Str t) texts) else Err TooLong
-
-abbrev pub split_call : Heap → List ℕ → List Value → Result (Value × Heap) RunFault
+abbrev pub split_call : Heap → List ℕ → List Value → Given
 split_call h text args = with_given (one_given string_in args) (λ by. if length by == 0 then Err BadArgs else split_array h (parts by text))
 
--- the same heap
-abbrev pub kept : Heap → Outcome → Result (Value × Heap) RunFault
-kept h (Ok v) = Ok (v, h)
-kept h (Err fault) = Err fault
-
 -- what a method gives, and the heap after it
-abbrev pub string_call_of : Heap → StrMethod → List ℕ → List Value → Result (Value × Heap) RunFault
+abbrev pub string_call_of : Heap → StrMethod → List ℕ → List Value → Given
 string_call_of h Split text args = split_call h text args
-string_call_of h Join text args = kept h (join_value h.cells text args)
-string_call_of h method text args = kept h (string_value method text args)
+string_call_of h Join text args = looked h (join_value h.cells text args)
+string_call_of h method text args = looked h (string_value method text args)

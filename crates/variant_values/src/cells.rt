@@ -144,6 +144,18 @@ impl Values {
         Ok(())
     }
 
+    /// Puts values in the place of as many from an index on, and hands those out.
+    pub fn exchange(&mut self, at: usize, mut put: Vec<Value>) -> Vec<Value>
+        requires { at + length put.items ≤ length self.old }
+        ensures out { result.items ≡ take (length put.items) (drop at self.old) }
+        ensures new { self.new ≡ take at self.old ++ put.items ++ drop (at + length put.items) self.old }
+    {
+        let after = self.items.len() - at - put.len();
+        let end = self.items.len() - after;
+        self.items.as_mut_slice()[at..end].swap_with_slice(put.as_mut_slice());
+        put
+    }
+
     /// Takes out so many values from an index on.
     pub fn take_out(&mut self, at: usize, out: usize)
         requires { at + out ≤ length self.old }

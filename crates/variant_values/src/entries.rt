@@ -2,7 +2,7 @@ ghost use Rattle.std.specs.Prelude.{◌≡◌, ◌<◌, ◌^◌, length, [], sli
 ghost use Rattle.std.specs.List.{sum_by};
 ghost use Rattle.std.specs.Map.{lookup};
 ghost use Rattle.variant_values.specs.Places.{entry_weight, room_left};
-ghost use Rattle.variant_values.specs.Keys.{same_key, with_entry, without_entry};
+ghost use Rattle.variant_values.specs.Keys.{same_key, with_entry, without_entry, HasKeysOnce};
 
 use crate::values::{Key, Value};
 use crate::weights::entry_weight;
@@ -74,6 +74,13 @@ impl Entries {
         ensures new { self.new ≡ without_entry self.old key.now }
     {
         self.map.shift_remove(key)
+    }
+
+    /// No key stands twice.
+    pub fn keys_once(&self)
+        ensures { HasKeysOnce self.now }
+    {
+        let _len = self.map.len();
     }
 
     /// What is left of so much room, where the entries have it.

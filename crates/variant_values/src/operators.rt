@@ -176,8 +176,8 @@ fn same_class(a: &ClassTag, b: &ClassTag) -> bool
     }
 }
 
-/// Whether two values are equal, where they may be compared.
-fn equal(a: &Value, b: &Value) -> Option<bool>
+/// Whether two values that are no containers are equal, or `None` where they cannot be compared.
+pub fn equal(a: &Value, b: &Value) -> Option<bool>
     ensures { result ≡ equal a.now b.now }
 {
     match (a, b) {

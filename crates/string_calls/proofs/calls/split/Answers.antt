@@ -1,5 +1,6 @@
+use Rattle.std.proofs.Common.{◌∙◌}
 use Rattle.string_calls.proofs.Parting.{knows_strings}
 use Rattle.string_calls.proofs.calls.split.Goals as goal
 
-pub placed_array-requires : goal.placed_array-requires
-placed_array-requires c = knows_strings c.args.heap.now.cells c.in_ok-items.items _ c.in_ok-items.ensures.0
+pub new_array-requires : goal.new_array-requires
+new_array-requires c = knows_strings c.args.heap.now.cells c.items.inside.items.items _ (c.items.view_is ∙ c.in_ok-items.ensures.0)

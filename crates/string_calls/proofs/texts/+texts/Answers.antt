@@ -55,11 +55,11 @@ write_value-returns-in-Dict t c =
 
 pub write_value-returns-in-Array-2 : goal.write_value-returns-in-Array-2
 write_value-returns-in-Array-2 t c =
-    writes_in c.args.out.now c.write_array.new.out c.write_array.result c.args.levels c.args.heap.now.cells c.args.names.now _ _ c.in-Array-2.is (writes_text c.args.out.now c.write_array.new.out c.write_array.result _ _ (array_in-below c.args.levels c.args.heap.now.cells c.args.names.now _ _ c.if-levels-eq0.false c.items_of.ensures.items) c.write_array.ensures)
+    writes_in c.args.out.now c.write_array.new.out c.write_array.result c.args.levels c.args.heap.now.cells c.args.names.now _ _ c.in-Array-2.is (writes_text c.args.out.now c.write_array.new.out c.write_array.result _ _ (array_in-below c.args.levels c.args.heap.now.cells c.args.names.now _ _ c.if-levels-eq0.false c.items.ensures.value) c.write_array.ensures)
 
 pub write_value-returns-in-Dict-2 : goal.write_value-returns-in-Dict-2
 write_value-returns-in-Dict-2 t c =
-    writes_in c.args.out.now c.write_dict.new.out c.write_dict.result c.args.levels c.args.heap.now.cells c.args.names.now _ _ c.in-Dict-2.is (writes_text c.args.out.now c.write_dict.new.out c.write_dict.result _ _ (dict_in-below c.args.levels c.args.heap.now.cells c.args.names.now _ _ c.if-levels-eq0-2.false c.entries_of.ensures.entries) c.write_dict.ensures)
+    writes_in c.args.out.now c.write_dict.new.out c.write_dict.result c.args.levels c.args.heap.now.cells c.args.names.now _ _ c.in-Dict-2.is (writes_text c.args.out.now c.write_dict.new.out c.write_dict.result _ _ (dict_in-below c.args.levels c.args.heap.now.cells c.args.names.now _ _ c.if-levels-eq0-2.false c.entries.ensures.value) c.write_dict.ensures)
 
 pub write_items-loop-v-preserved : goal.write_items-loop-v-preserved
 write_items-loop-v-preserved t c =

@@ -1,0 +1,233 @@
+-- Entries, as they are put into others.
+use Rattle.std.proofs.Common.{◌≡◌, ◌∙◌, ap, sym, refl, ℕ, zero, suc, ◌+◌, ◌≤◌, Bool, true, false, cond, List, [], ◌∷◌, length, take, Option, Some, None, is_some, arith}
+use Rattle.std.specs.Prelude.{not, slice_get, nat_eq}
+use Rattle.std.specs.List.{filter, sum_by}
+use Rattle.std.specs.Map.{lookup}
+use Rattle.std.specs.Cmp.{bool_eq_equiv}
+use Rattle.std.specs.Cmp.Lexicographic.{pointwise}
+use mathlib.Core.Bool.{beq}
+use Rattle.std.proofs.lemmas.Bool.{false≢true, and_parts, eqb-true}
+use Rattle.std.proofs.lemmas.Bool.Decides.{Decides-int_eq}
+use Rattle.std.proofs.lemmas.Cmp.{nat_list_eq_equiv, nat_eq_equiv, int_eq_equiv}
+use Rattle.std.proofs.lemmas.List.Sums.{sum_by-cons}
+use Rattle.variant_values.specs.declared.values.Key.{Key}
+use Rattle.variant_values.specs.declared.values.Key.TheVariants.{Bool as KeyTruth, Int as KeyInt, Str as KeyStr, Object as KeyObject}
+use Rattle.variant_values.specs.declared.values.Value.{Value}
+use Rattle.variant_values.specs.declared.values.Value.TheVariants.{Null}
+use Rattle.variant_values.specs.Keys.{same_key, with_entry, HasKeysOnce}
+use Rattle.variant_values.specs.Places.{entry_weight}
+use Rattle.variant_values.specs.DictMethods.{merged}
+use Rattle.call_support.proofs.Once.{apart_too}
+use Rattle.bulk_changes.specs.Merges.{key_more, keys_more, lacking, lacks, weight_less, weight_more, weights_less, weights_more}
+
+same_text : (a b : List ℕ) → pointwise nat_eq a b ≡ true → a ≡ b
+same_text [] [] h = refl
+same_text [] (y ∷ ys) h = absurd (false≢true h)
+same_text (x ∷ xs) [] h = absurd (false≢true h)
+same_text (x ∷ xs) (y ∷ ys) h =
+    let parts = and_parts (nat_eq x y) (pointwise nat_eq xs ys) h in
+    ap (λ z. z ∷ xs) (eqb-true x y parts.0) ∙ ap (λ zs. y ∷ zs) (same_text xs ys parts.1)
+
+same_truth : (a b : Bool) → beq a b ≡ true → a ≡ b
+same_truth true true h = refl
+same_truth true false h = absurd (false≢true h)
+same_truth false true h = absurd (false≢true h)
+same_truth false false h = refl
+
+-- keys that are one are equal
+pub same_is : (a b : Key) → same_key a b ≡ true → a ≡ b
+same_is (KeyTruth a) (KeyTruth b) h = ap KeyTruth (same_truth a b h)
+same_is (KeyTruth a) (KeyInt b) h = absurd (false≢true h)
+same_is (KeyTruth a) (KeyStr b) h = absurd (false≢true h)
+same_is (KeyTruth a) (KeyObject b) h = absurd (false≢true h)
+same_is (KeyInt a) (KeyTruth b) h = absurd (false≢true h)
+same_is (KeyInt a) (KeyInt b) h = ap KeyInt ((Decides-int_eq a b).0 h)
+same_is (KeyInt a) (KeyStr b) h = absurd (false≢true h)
+same_is (KeyInt a) (KeyObject b) h = absurd (false≢true h)
+same_is (KeyStr a) (KeyTruth b) h = absurd (false≢true h)
+same_is (KeyStr a) (KeyInt b) h = absurd (false≢true h)
+same_is (KeyStr a) (KeyStr b) h = ap KeyStr (same_text a b h)
+same_is (KeyStr a) (KeyObject b) h = absurd (false≢true h)
+same_is (KeyObject a) (KeyTruth b) h = absurd (false≢true h)
+same_is (KeyObject a) (KeyInt b) h = absurd (false≢true h)
+same_is (KeyObject a) (KeyStr b) h = absurd (false≢true h)
+same_is (KeyObject a) (KeyObject b) h = ap (λ n. KeyObject (record { 0 = n })) (eqb-true a.0 b.0 h)
+
+pub same_own : (k : Key) → same_key k k ≡ true
+same_own (KeyTruth b) = bool_eq_equiv.refl b
+same_own (KeyInt n) = int_eq_equiv.refl n
+same_own (KeyStr s) = nat_list_eq_equiv.refl s
+same_own (KeyObject s) = nat_eq_equiv.refl s.0
+
+-- what is apart from one of two equal keys is apart from the other
+other_apart : (g k e : Key) → same_key g k ≡ false → same_key k e ≡ true → same_key g e ≡ false
+other_apart g k e apart one = ap (same_key g) (sym (same_is k e one)) ∙ apart
+
+-- what a key gives that is apart from the one put in
+pub apart_lookup : (es : List (Key × Value)) (k g : Key) (v : Value) → same_key g k ≡ false → lookup (same_key g) (with_entry es k v) ≡ lookup (same_key g) es
+apart_lookup [] k g v apart = ap (λ b. cond b (Some v) None) apart
+apart_lookup (e ∷ es) k g v apart = by (same_key k e.0) refl (apart_lookup es k g v apart)
+  where
+    by : (b : Bool) → same_key k e.0 ≡ b → lookup (same_key g) (with_entry es k v) ≡ lookup (same_key g) es → lookup (same_key g) (cond b ((e.0, v) ∷ es) (e ∷ with_entry es k v)) ≡ lookup (same_key g) (e ∷ es)
+    by true one later =
+        let test : same_key g e.0 ≡ false = other_apart g k e.0 apart one in
+        ap (λ b. cond b (Some v) (lookup (same_key g) es)) test ∙ sym (ap (λ b. cond b (Some e.1) (lookup (same_key g) es)) test)
+    by false other later = ap (λ o. cond (same_key g e.0) (Some e.1) o) later
+
+-- what the key gives that was put in
+pub own_lookup : (es : List (Key × Value)) (k : Key) (v : Value) → lookup (same_key k) (with_entry es k v) ≡ Some v
+own_lookup [] k v = ap (λ b. cond b (Some v) None) (same_own k)
+own_lookup (e ∷ es) k v = by (same_key k e.0) refl (own_lookup es k v)
+  where
+    by : (b : Bool) → same_key k e.0 ≡ b → lookup (same_key k) (with_entry es k v) ≡ Some v → lookup (same_key k) (cond b ((e.0, v) ∷ es) (e ∷ with_entry es k v)) ≡ Some v
+    by true one later = ap (λ b. cond b (Some v) (lookup (same_key k) es)) one
+    by false other later = ap (λ b. cond b (Some e.1) (lookup (same_key k) (with_entry es k v))) other ∙ later
+
+-- sums of what is looked up, where a key is put in that none of them asks for
+pub sums_alike : (f : Option Value → Key × Value → ℕ) (es fs : List (Key × Value)) (k : Key) (v : Value) → lookup (same_key k) fs ≡ None → sum_by (λ g. f (lookup (same_key g.0) (with_entry es k v)) g) fs ≡ sum_by (λ g. f (lookup (same_key g.0) es) g) fs
+sums_alike f es [] k v none = refl
+sums_alike f es (g ∷ fs) k v none = by (same_key k g.0) refl none (sums_alike f es fs k v)
+  where
+    by : (b : Bool) → same_key k g.0 ≡ b → cond b (Some g.1) (lookup (same_key k) fs) ≡ None → (lookup (same_key k) fs ≡ None → sum_by (λ g. f (lookup (same_key g.0) (with_entry es k v)) g) fs ≡ sum_by (λ g. f (lookup (same_key g.0) es) g) fs) → sum_by (λ g. f (lookup (same_key g.0) (with_entry es k v)) g) (g ∷ fs) ≡ sum_by (λ g. f (lookup (same_key g.0) es) g) (g ∷ fs)
+    by true one h later = cc
+    by false other h later =
+        let one : f (lookup (same_key g.0) (with_entry es k v)) g ≡ f (lookup (same_key g.0) es) g = ap (λ o. f o g) (apart_lookup es k g.0 v (apart_too k g.0 other)) in
+        sum_by-cons (λ g. f (lookup (same_key g.0) (with_entry es k v)) g) g fs
+        ∙ ap (λ n. n + sum_by (λ g. f (lookup (same_key g.0) (with_entry es k v)) g) fs) one
+        ∙ ap (λ n. f (lookup (same_key g.0) es) g + n) (later h)
+        ∙ sym (sum_by-cons (λ g. f (lookup (same_key g.0) es) g) g fs)
+
+put_length : (es : List (Key × Value)) (k : Key) (v : Value) → length (with_entry es k v) ≡ length es + key_more (lookup (same_key k) es)
+put_length [] k v = omega arith
+put_length (e ∷ es) k v = by (same_key k e.0) (put_length es k v)
+  where
+    by : (b : Bool) → length (with_entry es k v) ≡ length es + key_more (lookup (same_key k) es) → length (cond b ((e.0, v) ∷ es) (e ∷ with_entry es k v)) ≡ length (e ∷ es) + key_more (cond b (Some e.1) (lookup (same_key k) es))
+    by true later = omega arith
+    by false later = omega (arith, later)
+
+pub put_weight : (es : List (Key × Value)) (k : Key) (v : Value) → sum_by entry_weight (with_entry es k v) + weight_less (lookup (same_key k) es) ≡ sum_by entry_weight es + weight_more (lookup (same_key k) es) (k, v)
+put_weight [] k v = omega (arith, sum_by-cons entry_weight (k, v) [])
+put_weight (e ∷ es) k v = by (same_key k e.0) (put_weight es k v)
+  where
+    by : (b : Bool) → sum_by entry_weight (with_entry es k v) + weight_less (lookup (same_key k) es) ≡ sum_by entry_weight es + weight_more (lookup (same_key k) es) (k, v) → sum_by entry_weight (cond b ((e.0, v) ∷ es) (e ∷ with_entry es k v)) + weight_less (cond b (Some e.1) (lookup (same_key k) es)) ≡ sum_by entry_weight (e ∷ es) + weight_more (cond b (Some e.1) (lookup (same_key k) es)) (k, v)
+    by true later = omega (arith, sum_by-cons entry_weight (e.0, v) es, sum_by-cons entry_weight e es)
+    by false later = omega (arith, sum_by-cons entry_weight e (with_entry es k v), sum_by-cons entry_weight e es, later)
+
+pub less_alike : (es fs : List (Key × Value)) (f : Key × Value) → lookup (same_key f.0) fs ≡ None → weights_less (with_entry es f.0 f.1) fs ≡ weights_less es fs
+less_alike es fs f none = sums_alike (λ o g. weight_less o) es fs f.0 f.1 none
+
+pub less_next : (es fs : List (Key × Value)) (f : Key × Value) → weights_less es (f ∷ fs) ≡ weight_less (lookup (same_key f.0) es) + weights_less es fs
+less_next es fs f = sum_by-cons (λ g. weight_less (lookup (same_key g.0) es)) f fs
+
+pub merged_length : (es fs : List (Key × Value)) → HasKeysOnce fs → length (merged true es fs) ≡ length es + keys_more es fs
+merged_length es [] once = omega arith
+merged_length es (f ∷ fs) once =
+    omega (arith, merged_length (with_entry es f.0 f.1) fs once.1, put_length es f.0 f.1, sums_alike (λ o g. key_more o) es fs f.0 f.1 once.0, sum_by-cons (λ g. key_more (lookup (same_key g.0) es)) f fs)
+
+pub merged_weight : (es fs : List (Key × Value)) → HasKeysOnce fs → sum_by entry_weight (merged true es fs) + weights_less es fs ≡ sum_by entry_weight es + weights_more es fs
+merged_weight es [] once = omega arith
+merged_weight es (f ∷ fs) once =
+    omega (arith, merged_weight (with_entry es f.0 f.1) fs once.1, put_weight es f.0 f.1, less_alike es fs f once.0, less_next es fs f, sums_alike weight_more es fs f.0 f.1 once.0, sum_by-cons (λ g. weight_more (lookup (same_key g.0) es) g) f fs)
+
+-- only the entries whose keys are missing are put in where none is overwritten
+lacks_alike : (es fs : List (Key × Value)) (k : Key) (v : Value) → lookup (same_key k) fs ≡ None → lacking (with_entry es k v) fs ≡ lacking es fs
+lacks_alike es [] k v none = refl
+lacks_alike es (g ∷ fs) k v none = by (same_key k g.0) refl none (lacks_alike es fs k v)
+  where
+    by : (b : Bool) → same_key k g.0 ≡ b → cond b (Some g.1) (lookup (same_key k) fs) ≡ None → (lookup (same_key k) fs ≡ None → lacking (with_entry es k v) fs ≡ lacking es fs) → lacking (with_entry es k v) (g ∷ fs) ≡ lacking es (g ∷ fs)
+    by true one h later = cc
+    by false other h later =
+        ap (λ o. cond (not (is_some o)) (g ∷ lacking (with_entry es k v) fs) (lacking (with_entry es k v) fs)) (apart_lookup es k g.0 v (apart_too k g.0 other))
+        ∙ ap (λ us. cond (lacks es g) (g ∷ us) us) (later h)
+
+pub merged_lacking : (es fs : List (Key × Value)) → HasKeysOnce fs → merged true es (lacking es fs) ≡ merged false es fs
+merged_lacking es [] once = refl
+merged_lacking es (f ∷ fs) once = by (is_some (lookup (same_key f.0) es)) (merged_lacking es fs once.1) (ap (merged true (with_entry es f.0 f.1)) (sym (lacks_alike es fs f.0 f.1 once.0)) ∙ merged_lacking (with_entry es f.0 f.1) fs once.1)
+  where
+    by : (b : Bool) → merged true es (lacking es fs) ≡ merged false es fs → merged true (with_entry es f.0 f.1) (lacking es fs) ≡ merged false (with_entry es f.0 f.1) fs → merged true es (cond (not b) (f ∷ lacking es fs) (lacking es fs)) ≡ merged false (cond b es (with_entry es f.0 f.1)) fs
+    by true there new = there
+    by false there new = new
+
+-- putting a key in anew
+again : (es : List (Key × Value)) (k : Key) (v w : Value) → with_entry (with_entry es k v) k w ≡ with_entry es k w
+again [] k v w = ap (λ b. cond b ((k, w) ∷ []) ((k, v) ∷ (k, w) ∷ [])) (same_own k)
+again (e ∷ es) k v w = by (same_key k e.0) refl (again es k v w)
+  where
+    by : (b : Bool) → same_key k e.0 ≡ b → with_entry (with_entry es k v) k w ≡ with_entry es k w → with_entry (cond b ((e.0, v) ∷ es) (e ∷ with_entry es k v)) k w ≡ cond b ((e.0, w) ∷ es) (e ∷ with_entry es k w)
+    by true one later = ap (λ b. cond b ((e.0, w) ∷ es) ((e.0, v) ∷ with_entry es k w)) one
+    by false other later = ap (λ b. cond b ((e.0, w) ∷ with_entry es k v) (e ∷ with_entry (with_entry es k v) k w)) other ∙ ap (λ us. e ∷ us) later
+
+-- a key that is there and another are put in, in either order
+swapped : (es : List (Key × Value)) (k g : Key) (v w : Value) → same_key k g ≡ false → is_some (lookup (same_key k) es) ≡ true → with_entry (with_entry es k v) g w ≡ with_entry (with_entry es g w) k v
+swapped [] k g v w apart there = absurd (false≢true there)
+swapped (e ∷ es) k g v w apart there = by (same_key k e.0) (same_key g e.0) refl refl there (swapped es k g v w apart)
+  where
+    by : (a b : Bool) → same_key k e.0 ≡ a → same_key g e.0 ≡ b → is_some (cond a (Some e.1) (lookup (same_key k) es)) ≡ true → (is_some (lookup (same_key k) es) ≡ true → with_entry (with_entry es k v) g w ≡ with_entry (with_entry es g w) k v) → with_entry (cond a ((e.0, v) ∷ es) (e ∷ with_entry es k v)) g w ≡ with_entry (cond b ((e.0, w) ∷ es) (e ∷ with_entry es g w)) k v
+    by true true p q h later = absurd (false≢true (sym (other_apart k g e.0 apart q) ∙ p))
+    by true false p q h later =
+        ap (λ b. cond b ((e.0, w) ∷ es) ((e.0, v) ∷ with_entry es g w)) q
+        ∙ sym (ap (λ b. cond b ((e.0, v) ∷ with_entry es g w) (e ∷ with_entry (with_entry es g w) k v)) p)
+    by false true p q h later =
+        ap (λ b. cond b ((e.0, w) ∷ with_entry es k v) (e ∷ with_entry (with_entry es k v) g w)) q
+        ∙ sym (ap (λ b. cond b ((e.0, v) ∷ es) ((e.0, w) ∷ with_entry es k v)) p)
+    by false false p q h later =
+        ap (λ b. cond b ((e.0, w) ∷ with_entry es k v) (e ∷ with_entry (with_entry es k v) g w)) q
+        ∙ ap (λ us. e ∷ us) (later h)
+        ∙ sym (ap (λ b. cond b ((e.0, v) ∷ with_entry es g w) (e ∷ with_entry (with_entry es g w) k v)) p)
+
+-- the value of a key that is there does not matter where the key is put in
+pub overwritten : (es fs : List (Key × Value)) (k : Key) (v : Value) → is_some (lookup (same_key k) fs) ≡ true → is_some (lookup (same_key k) es) ≡ true → merged true (with_entry es k v) fs ≡ merged true es fs
+overwritten es [] k v put there = absurd (false≢true put)
+overwritten es (f ∷ fs) k v put there = by (same_key k f.0) refl put (overwritten (with_entry es f.0 f.1) fs k v)
+  where
+    by : (b : Bool) → same_key k f.0 ≡ b → is_some (cond b (Some f.1) (lookup (same_key k) fs)) ≡ true → (is_some (lookup (same_key k) fs) ≡ true → is_some (lookup (same_key k) (with_entry es f.0 f.1)) ≡ true → merged true (with_entry (with_entry es f.0 f.1) k v) fs ≡ merged true (with_entry es f.0 f.1) fs) → merged true (with_entry (with_entry es k v) f.0 f.1) fs ≡ merged true (with_entry es f.0 f.1) fs
+    by true one h later =
+        ap (λ q. merged true (with_entry (with_entry es q v) f.0 f.1) fs) (same_is k f.0 one)
+        ∙ ap (λ us. merged true us fs) (again es f.0 v f.1)
+    by false other h later =
+        ap (λ us. merged true us fs) (swapped es k f.0 v f.1 other there)
+        ∙ later h (ap is_some (apart_lookup es f.0 k f.1 other) ∙ there)
+
+-- an entry's key is there
+pub found_at : (fs : List (Key × Value)) (i : ℕ) (f : Key × Value) → slice_get fs i ≡ Some f → is_some (lookup (same_key f.0) fs) ≡ true
+found_at [] i f at = cc
+found_at (g ∷ fs) zero f at =
+    let one : g ≡ f = cc in
+    ap (λ (e : Key × Value). is_some (cond (same_key f.0 e.0) (Some g.1) (lookup (same_key f.0) fs))) one ∙ ap (λ b. is_some (cond b (Some g.1) (lookup (same_key f.0) fs))) (same_own f.0)
+found_at (g ∷ fs) (suc i) f at = by (same_key f.0 g.0) (found_at fs i f at)
+  where
+    by : (b : Bool) → is_some (lookup (same_key f.0) fs) ≡ true → is_some (cond b (Some g.1) (lookup (same_key f.0) fs)) ≡ true
+    by true later = refl
+    by false later = later
+
+-- no entry before has its key
+pub not_before : (fs : List (Key × Value)) (i : ℕ) (f : Key × Value) → HasKeysOnce fs → slice_get fs i ≡ Some f → lookup (same_key f.0) (take i fs) ≡ None
+not_before [] i f once at = cc
+not_before (g ∷ fs) zero f once at = refl
+not_before (g ∷ fs) (suc i) f once at = by (same_key f.0 g.0) refl (not_before fs i f once.1 at)
+  where
+    by : (b : Bool) → same_key f.0 g.0 ≡ b → lookup (same_key f.0) (take i fs) ≡ None → cond b (Some g.1) (lookup (same_key f.0) (take i fs)) ≡ None
+    by true one later =
+        let none : is_some (lookup (same_key f.0) fs) ≡ false = ap (λ q. is_some (lookup (same_key q) fs)) (same_is f.0 g.0 one) ∙ ap is_some once.0 in
+        absurd (false≢true (sym none ∙ found_at fs i f at))
+    by false other later = later
+
+pub none_filtered : (p : Key × Value → Bool) (fs : List (Key × Value)) (k : Key) → lookup (same_key k) fs ≡ None → lookup (same_key k) (filter p fs) ≡ None
+none_filtered p [] k none = refl
+none_filtered p (g ∷ fs) k none = by (same_key k g.0) refl none (none_filtered p fs k) (p g)
+  where
+    kept : (c : Bool) → same_key k g.0 ≡ false → lookup (same_key k) (filter p fs) ≡ None → lookup (same_key k) (cond c (g ∷ filter p fs) (filter p fs)) ≡ None
+    kept true other later = ap (λ b. cond b (Some g.1) (lookup (same_key k) (filter p fs))) other ∙ later
+    kept false other later = later
+
+    by : (b : Bool) → same_key k g.0 ≡ b → cond b (Some g.1) (lookup (same_key k) fs) ≡ None → (lookup (same_key k) fs ≡ None → lookup (same_key k) (filter p fs) ≡ None) → (c : Bool) → lookup (same_key k) (cond c (g ∷ filter p fs) (filter p fs)) ≡ None
+    by true one h later c = cc
+    by false other h later c = kept c other (later h)
+
+-- null is the lightest value
+pub null_less : (es : List (Key × Value)) (k g : Key) → weight_less (lookup (same_key g) (with_entry es k Null)) ≤ weight_less (lookup (same_key g) es)
+null_less es k g = by (same_key g k) refl
+  where
+    by : (b : Bool) → same_key g k ≡ b → weight_less (lookup (same_key g) (with_entry es k Null)) ≤ weight_less (lookup (same_key g) es)
+    by true one = omega (arith, ap (λ q. weight_less (lookup (same_key q) (with_entry es k Null))) (same_is g k one) ∙ ap weight_less (own_lookup es k Null))
+    by false other = omega (arith, ap weight_less (apart_lookup es k g Null other))

@@ -1,0 +1,16 @@
+use Rattle.std.proofs.Common.{◌≡◌, ◌+◌, ◌*◌, ◌-◌, ◌≤◌, ◌++◌, length}
+use Rattle.variant_values.specs.Places.{weight}
+use Rattle.variant_values.specs.Heaps.{KnowsAll}
+use Rattle.variant_values.specs.Changes.{Keeps}
+use Rattle.variant_values.specs.Resizes.{in_a_row, with_more}
+use Rattle.bulk_changes.specs.Containers.{empty_cell, named}
+use Rattle.bulk_changes.proofs.resizes.add_many.Given as goal
+
+abbrev pub invariant-loop-i : goal.invariant-loop-i
+invariant-loop-i l = record {
+  cells : with_more l.heap (empty_cell l.kind) (l.count - l.i) ≡ with_more l.fn.heap (empty_cell l.kind) l.count;
+  row : l.list.items ++ in_a_row (named l.kind) (length l.heap.cells) (l.count - l.i) ≡ in_a_row (named l.kind) (length l.fn.heap.cells) l.count;
+  room : weight l.heap.cells + 16 * (l.count - l.i) ≤ 67108864;
+  keeps : Keeps l.fn.heap.cells l.heap.cells;
+  known : KnowsAll l.heap.cells l.list.items;
+}

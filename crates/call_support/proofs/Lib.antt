@@ -1,0 +1,5 @@
+pub mod Counts
+pub mod Keeping
+pub mod Few
+pub mod Once
+pub mod Finding

@@ -1,0 +1,75 @@
+// Changes of one cell, each with all that can come of it.
+ghost use Rattle.std.specs.Prelude.{◌≡◌, ◌+◌, ◌≤◌, length, true, IfOk};
+ghost use Rattle.variant_values.specs.Heaps.{cell_at, is_array, is_dict, items_of, knows, knows_key, with_splice, with_entry_at, KnowsAll, KnowsEntries};
+ghost use Rattle.variant_values.specs.Changes.{Keeps, HasGiven, new_array, new_dict, weighed};
+
+use ref_objects::heap::Heap;
+use variant_values::cells::{Cell, Values};
+use variant_values::classes::ElementTag;
+use variant_values::entries::Entries;
+use variant_values::faults::Trouble;
+use variant_values::values::{Key, Serial, Value};
+
+/// Puts values into an array in the place of `out` items from an index on.
+pub fn splice(
+    heap: &mut Heap,
+    of: Serial,
+    at: usize,
+    out: usize,
+    put: Vec<Value>,
+) -> Result<(), Trouble>
+    requires array { is_array (cell_at heap.old.cells of.0) ≡ true }
+    requires items { at + out ≤ length (items_of (cell_at heap.old.cells of.0)) }
+    requires put { KnowsAll heap.old.cells put.items }
+    ensures given { HasGiven result heap.old heap.new (weighed (with_splice heap.old of.0 at out put.items) tt) }
+    ensures keeps { Keeps heap.old.cells heap.new.cells }
+{
+    match heap.splice(of, at, out, put) {
+        Ok(()) => Ok(()),
+        Err(trouble) => Err(trouble),
+    }
+}
+
+/// Gives a dictionary an entry.
+pub fn set_entry(heap: &mut Heap, of: Serial, key: Key, to: Value) -> Result<(), Trouble>
+    requires dict { is_dict (cell_at heap.old.cells of.0) ≡ true }
+    requires key { knows_key heap.old.cells key ≡ true }
+    requires to { knows heap.old.cells to ≡ true }
+    ensures given { HasGiven result heap.old heap.new (weighed (with_entry_at heap.old of.0 key to) tt) }
+    ensures keeps { Keeps heap.old.cells heap.new.cells }
+{
+    match heap.set_entry(of, key, to) {
+        Ok(()) => Ok(()),
+        Err(trouble) => Err(trouble),
+    }
+}
+
+/// Makes an array.
+pub fn new_array(
+    heap: &mut Heap,
+    items: Vec<Value>,
+    of: Option<ElementTag>,
+) -> Result<Value, Trouble>
+    requires { KnowsAll heap.old.cells items.items }
+    ensures given { HasGiven result heap.old heap.new (new_array heap.old items.items of) }
+    ensures keeps { Keeps heap.old.cells heap.new.cells }
+    ensures known { IfOk result (λ v. knows heap.new.cells v ≡ true) }
+{
+    match heap.new_cell(Cell::Array(Values::of(items), of)) {
+        Ok(serial) => Ok(Value::Array(serial)),
+        Err(trouble) => Err(trouble),
+    }
+}
+
+/// Makes a dictionary.
+pub fn new_dict(heap: &mut Heap, entries: Entries) -> Result<Value, Trouble>
+    requires { KnowsEntries heap.old.cells entries }
+    ensures given { HasGiven result heap.old heap.new (new_dict heap.old entries) }
+    ensures keeps { Keeps heap.old.cells heap.new.cells }
+    ensures known { IfOk result (λ v. knows heap.new.cells v ≡ true) }
+{
+    match heap.new_cell(Cell::Dict(entries)) {
+        Ok(serial) => Ok(Value::Dict(serial)),
+        Err(trouble) => Err(trouble),
+    }
+}

@@ -1,0 +1,28 @@
+// Copies of entries.
+ghost use Rattle.std.specs.Prelude.{◌≡◌, IfOk, OnOk};
+ghost use Rattle.variant_values.specs.Keys.{HasKeysOnce, with_entry};
+
+use std::alloc::{AllocError, Global};
+use variant_values::entries::Entries;
+use variant_values::values::{Key, Value};
+
+/// Puts a copy of an entry in.
+pub fn enter_copy(entries: &mut Entries, key: &Key, value: &Value) -> Result<(), AllocError>
+    ensures { OnOk result (entries.new ≡ with_entry entries.old key.now value.now) }
+{
+    entries.insert(key.clone()?, value.clone()?)?;
+    Ok(())
+}
+
+/// The same entries. Containers inside stay shared.
+pub fn copied_entries(alloc: Global, entries: &Entries) -> Result<Entries, AllocError>
+    requires { HasKeysOnce entries.now }
+    ensures { IfOk result (λ copy. copy ≡ entries.now) }
+{
+    let mut copy = Entries::new(alloc);
+    for i in 0..entries.len() {
+        let (key, value) = entries.entry_at(i);
+        enter_copy(&mut copy, key, value)?;
+    }
+    Ok(copy)
+}

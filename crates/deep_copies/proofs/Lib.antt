@@ -1,0 +1,4 @@
+pub mod Levels
+pub mod Growth
+pub mod Weights
+pub mod Copying

@@ -1,0 +1,36 @@
+use Rattle.std.proofs.Common.{◌≡◌, ◌+◌, ◌*◌, ◌++◌, drop}
+use Rattle.variant_values.specs.Changes.{Keeps}
+use Rattle.variant_values.specs.Copies.{copied, copied_items, copied_entries}
+use Rattle.variant_values.specs.Heaps.{KnowsAll, KnowsEntries}
+use Rattle.variant_values.specs.Keys.{HasKeysOnce}
+use Rattle.deep_copies.proofs.copies.+copies.Given as goal
+
+abbrev pub decreases-copy_value : goal.decreases-copy_value
+decreases-copy_value l = 3 * l.levels
+
+abbrev pub decreases-copy_items : goal.decreases-copy_items
+decreases-copy_items l = 3 * l.levels + 1
+
+abbrev pub decreases-copy_entries : goal.decreases-copy_entries
+decreases-copy_entries l = 3 * l.levels + 1
+
+abbrev pub decreases-copy_array : goal.decreases-copy_array
+decreases-copy_array l = 3 * l.levels + 2
+
+abbrev pub decreases-copy_dict : goal.decreases-copy_dict
+decreases-copy_dict l = 3 * l.levels + 2
+
+abbrev pub invariant-copy_items-loop-v : goal.invariant-copy_items-loop-v
+invariant-copy_items-loop-v l = record {
+  done : KnowsAll l.heap.cells l.copy.items;
+  keeps : Keeps l.fn.heap.cells l.heap.cells;
+  whole : (l.copy.items ++ (copied_items (copied l.levels) l.heap (drop l.v-index l.from)).0, (copied_items (copied l.levels) l.heap (drop l.v-index l.from)).1) ≡ copied_items (copied l.levels) l.fn.heap l.from;
+}
+
+abbrev pub invariant-copy_entries-loop-i : goal.invariant-copy_entries-loop-i
+invariant-copy_entries-loop-i l = record {
+  done : KnowsEntries l.heap.cells l.copy;
+  keeps : Keeps l.fn.heap.cells l.heap.cells;
+  once : HasKeysOnce (l.copy ++ drop l.i l.from);
+  whole : (l.copy ++ (copied_entries (copied l.levels) l.heap (drop l.i l.from)).0, (copied_entries (copied l.levels) l.heap (drop l.i l.from)).1) ≡ copied_entries (copied l.levels) l.fn.heap l.from;
+}

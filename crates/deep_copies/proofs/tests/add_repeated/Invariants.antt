@@ -1,0 +1,10 @@
+use Rattle.std.proofs.Common.{◌≡◌, true}
+use Rattle.variant_values.specs.Changes.{Keeps}
+use Rattle.variant_values.specs.Heaps.{knows}
+use Rattle.deep_copies.proofs.tests.add_repeated.Given as goal
+
+abbrev pub invariant-loop : goal.invariant-loop
+invariant-loop l = record {
+  known : knows l.heap.cells l.list ≡ true;
+  keeps : Keeps l.fn.heap.cells l.heap.cells;
+}

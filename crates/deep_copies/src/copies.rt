@@ -1,0 +1,166 @@
+// Copies of containers, those inside first. The heap takes the whole.
+ghost use Rattle.std.specs.Prelude.{◌≡◌, ◌≤◌, true, IfOk, OnOk};
+ghost use Rattle.variant_values.specs.declared.cells.Cell.TheVariants.{Array as ArrayCell, Dict as DictCell};
+ghost use Rattle.variant_values.specs.Heaps.{cell_at, is_array, is_dict, knows, with_new, KnowsAll, KnowsEntries};
+ghost use Rattle.variant_values.specs.Keys.{HasKeysOnce, with_entry};
+ghost use Rattle.variant_values.specs.Places.{weight};
+ghost use Rattle.variant_values.specs.Changes.{Keeps};
+ghost use Rattle.variant_values.specs.Copies.{copied, copied_items, copied_entries, new_array_of, new_dict_of};
+ghost use Rattle.deep_copies.specs.CopyWeights.{array_copy, dict_copy};
+
+use call_support::changes::{new_array, new_dict};
+use call_support::copies::copied_entries;
+use call_support::views::{element, entries, items};
+use ref_objects::heap::Heap;
+use std::alloc::{AllocError, Global};
+use variant_values::classes::ElementTag;
+use variant_values::entries::Entries;
+use variant_values::faults::Trouble;
+use variant_values::values::{Key, Serial, Value};
+
+/// Makes the copy of an array.
+fn place_array(
+    heap: &mut Heap,
+    items: Vec<Value>,
+    of: Option<ElementTag>,
+) -> Result<Value, AllocError>
+    requires known { KnowsAll heap.old.cells items.items }
+    requires fits { weight (with_new heap.old (ArrayCell items.items of)).cells ≤ 67108864 }
+    ensures copy { IfOk result (λ v. (v, heap.new) ≡ new_array_of of (items.items, heap.old)) }
+    ensures keeps { Keeps heap.old.cells heap.new.cells }
+    ensures known { IfOk result (λ v. knows heap.new.cells v ≡ true) }
+{
+    // A heap has fewer cells than there are serials.
+    let _room = heap.room();
+    match new_array(heap, items, of) {
+        Ok(v) => Ok(v),
+        Err(Trouble::NoMemory) => Err(AllocError),
+        Err(Trouble::Fault(_)) => unreachable!(),
+    }
+}
+
+/// Makes the copy of a dictionary.
+fn place_dict(heap: &mut Heap, entries: Entries) -> Result<Value, AllocError>
+    requires known { KnowsEntries heap.old.cells entries }
+    requires fits { weight (with_new heap.old (DictCell entries)).cells ≤ 67108864 }
+    ensures copy { IfOk result (λ v. (v, heap.new) ≡ new_dict_of (entries, heap.old)) }
+    ensures keeps { Keeps heap.old.cells heap.new.cells }
+    ensures known { IfOk result (λ v. knows heap.new.cells v ≡ true) }
+{
+    // A heap has fewer cells than there are serials.
+    let _room = heap.room();
+    match new_dict(heap, entries) {
+        Ok(v) => Ok(v),
+        Err(Trouble::NoMemory) => Err(AllocError),
+        Err(Trouble::Fault(_)) => unreachable!(),
+    }
+}
+
+/// The same value.
+fn shared(v: &Value) -> Result<Value, AllocError>
+    ensures { IfOk result (λ copy. copy ≡ v.now) }
+{
+    Ok(v.clone()?)
+}
+
+/// Puts an entry in.
+fn enter(entries: &mut Entries, key: &Key, value: Value) -> Result<(), AllocError>
+    ensures { OnOk result (entries.new ≡ with_entry entries.old key.now value) }
+{
+    entries.insert(key.clone()?, value)?;
+    Ok(())
+}
+
+/// A copy of a value with so many levels of containers.
+#[cycle(copies)]
+pub fn copy_value(
+    alloc: Global,
+    heap: &mut Heap,
+    v: &Value,
+    levels: u32,
+) -> Result<Value, AllocError>
+    requires known { knows heap.old.cells v.now ≡ true }
+    requires fits { weight (copied levels heap.old v.now).1.cells ≤ 67108864 }
+    ensures copy { IfOk result (λ w. (w, heap.new) ≡ copied levels heap.old v.now) }
+    ensures keeps { Keeps heap.old.cells heap.new.cells }
+    ensures known { IfOk result (λ w. knows heap.new.cells w ≡ true) }
+{
+    if levels == 0 {
+        return shared(v);
+    }
+    match v {
+        Value::Array(s) => copy_array(alloc, heap, *s, levels - 1),
+        Value::Dict(s) => copy_dict(alloc, heap, *s, levels - 1),
+        _ => shared(v),
+    }
+}
+
+#[cycle(copies)]
+fn copy_array(alloc: Global, heap: &mut Heap, of: Serial, levels: u32) -> Result<Value, AllocError>
+    requires known { is_array (cell_at heap.old.cells of.0) ≡ true }
+    requires fits { weight (array_copy levels heap.old of).1.cells ≤ 67108864 }
+    ensures copy { IfOk result (λ w. (w, heap.new) ≡ array_copy levels heap.old of) }
+    ensures keeps { Keeps heap.old.cells heap.new.cells }
+    ensures known { IfOk result (λ w. knows heap.new.cells w ≡ true) }
+{
+    let element = element(heap, of);
+    let from = items(heap, of).to_vec(alloc)?;
+    let copy = copy_items(alloc, heap, from.as_slice(), levels)?;
+    place_array(heap, copy, element)
+}
+
+#[cycle(copies)]
+fn copy_dict(alloc: Global, heap: &mut Heap, of: Serial, levels: u32) -> Result<Value, AllocError>
+    requires known { is_dict (cell_at heap.old.cells of.0) ≡ true }
+    requires fits { weight (dict_copy levels heap.old of).1.cells ≤ 67108864 }
+    ensures copy { IfOk result (λ w. (w, heap.new) ≡ dict_copy levels heap.old of) }
+    ensures keeps { Keeps heap.old.cells heap.new.cells }
+    ensures known { IfOk result (λ w. knows heap.new.cells w ≡ true) }
+{
+    let from = copied_entries(alloc, entries(heap, of))?;
+    let copy = copy_entries(alloc, heap, &from, levels)?;
+    place_dict(heap, copy)
+}
+
+#[cycle(copies)]
+fn copy_items(
+    alloc: Global,
+    heap: &mut Heap,
+    from: &[Value],
+    levels: u32,
+) -> Result<Vec<Value>, AllocError>
+    requires known { KnowsAll heap.old.cells from.now }
+    requires fits { weight (copied_items (copied levels) heap.old from.now).1.cells ≤ 67108864 }
+    ensures copy { IfOk result (λ list. (list.items, heap.new) ≡ copied_items (copied levels) heap.old from.now) }
+    ensures keeps { Keeps heap.old.cells heap.new.cells }
+    ensures known { IfOk result (λ list. KnowsAll heap.new.cells list.items) }
+{
+    let mut copy = Vec::new(alloc);
+    for v in from {
+        copy.push(copy_value(alloc, heap, v, levels)?)?;
+    }
+    Ok(copy)
+}
+
+#[cycle(copies)]
+fn copy_entries(
+    alloc: Global,
+    heap: &mut Heap,
+    from: &Entries,
+    levels: u32,
+) -> Result<Entries, AllocError>
+    requires known { KnowsEntries heap.old.cells from.now }
+    requires once { HasKeysOnce from.now }
+    requires fits { weight (copied_entries (copied levels) heap.old from.now).1.cells ≤ 67108864 }
+    ensures copy { IfOk result (λ es. (es, heap.new) ≡ copied_entries (copied levels) heap.old from.now) }
+    ensures keeps { Keeps heap.old.cells heap.new.cells }
+    ensures known { IfOk result (λ es. KnowsEntries heap.new.cells es) }
+{
+    let mut copy = Entries::new(alloc);
+    for i in 0..from.len() {
+        let (key, v) = from.entry_at(i);
+        let inner = copy_value(alloc, heap, v, levels)?;
+        enter(&mut copy, key, inner)?;
+    }
+    Ok(copy)
+}

@@ -1,0 +1,36 @@
+//! Deep copies of arrays and dictionaries.
+#![tactic(auto)]
+
+ghost use Rattle.std.specs.Prelude.{◌≡◌, true, IfOk};
+ghost use Rattle.variant_values.specs.Heaps.{knows};
+ghost use Rattle.variant_values.specs.Changes.{Keeps, HasGiven};
+ghost use Rattle.variant_values.specs.Copies.{deep_copy_of};
+
+mod copies;
+mod rooms;
+#[cfg(test)]
+mod tests;
+
+use crate::copies::copy_value;
+use crate::rooms::takes_copy;
+use call_support::walks::{MOST_LEVELS, is_within};
+use ref_objects::heap::Heap;
+use std::alloc::Global;
+use variant_values::faults::{RunFault, Trouble};
+use variant_values::values::Value;
+
+/// Copies a value with all containers inside. What is no container stays shared.
+pub fn deep_copy(alloc: Global, heap: &mut Heap, of: &Value) -> Result<Value, Trouble>
+    requires { knows heap.old.cells of.now ≡ true }
+    ensures given { HasGiven result heap.old heap.new (deep_copy_of heap.old of.now) }
+    ensures keeps { Keeps heap.old.cells heap.new.cells }
+    ensures known { IfOk result (λ v. knows heap.new.cells v ≡ true) }
+{
+    if !is_within(heap, of) {
+        return Err(Trouble::Fault(RunFault::TooDeep));
+    }
+    if !takes_copy(heap, of) {
+        return Err(Trouble::Fault(RunFault::HeapFull));
+    }
+    Ok(copy_value(alloc, heap, of, MOST_LEVELS)?)
+}

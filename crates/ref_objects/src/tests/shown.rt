@@ -1,0 +1,97 @@
+//! What a heap holds, as a text that two moments are compared by.
+
+use crate::heap::Heap;
+use std::alloc::{AllocError, Global};
+use variant_values::cells::{Cell, ObjectCell};
+use variant_values::values::{Key, Value};
+
+// Long texts are told by their lengths.
+fn push_value(out: &mut String, v: &Value) -> Result<(), AllocError> {
+    match v {
+        Value::Null => out.push_str("null "),
+        Value::Bool(b) => write!(out, "{b} "),
+        Value::Int(n) => write!(out, "{n} "),
+        Value::Str(s) => write!(out, "text{} ", s.len()),
+        Value::Array(s) => write!(out, "array{} ", s.0),
+        Value::Dict(s) => write!(out, "dict{} ", s.0),
+        Value::Object(s) => write!(out, "object{} ", s.0),
+        Value::Weak(s) => write!(out, "weak{} ", s.0),
+        Value::Callable(s, name) => write!(out, "callable{}.{} ", s.0, name.as_str()),
+        Value::Signal(s, name) => write!(out, "signal{}.{} ", s.0, name.as_str()),
+        Value::Class(_) => out.push_str("class "),
+        Value::Scene(file, path) => write!(out, "scene{}.{} ", file, path.as_str()),
+    }
+}
+
+fn push_key(out: &mut String, key: &Key) -> Result<(), AllocError> {
+    match key {
+        Key::Bool(b) => write!(out, "{b}: "),
+        Key::Int(n) => write!(out, "{n}: "),
+        Key::Str(s) => write!(out, "text{}: ", s.len()),
+        Key::Object(s) => write!(out, "object{}: ", s.0),
+    }
+}
+
+fn push_values(out: &mut String, values: &[Value]) -> Result<(), AllocError> {
+    for v in values {
+        push_value(out, v)?;
+    }
+    Ok(())
+}
+
+fn push_object(out: &mut String, object: &ObjectCell) -> Result<(), AllocError> {
+    push_values(out, object.fields.as_slice())?;
+    for row in &object.connections.rows {
+        write!(
+            out,
+            "{}>{}.{} ",
+            row.signal.as_str(),
+            row.target.0,
+            row.method.as_str()
+        )?;
+    }
+    if let Some(node) = &object.node {
+        write!(out, "node {} ", node.name.as_str())?;
+        if let Some(parent) = node.parent {
+            write!(out, "in{} ", parent.0)?;
+        }
+        for child in node.children.as_slice() {
+            write!(out, "over{} ", child.0)?;
+        }
+    }
+    Ok(())
+}
+
+fn push_cell(out: &mut String, cell: &Cell) -> Result<(), AllocError> {
+    match cell {
+        Cell::Array(items, _) => push_values(out, items.as_slice()),
+        Cell::Dict(entries) => {
+            for n in 0..entries.len() {
+                let (key, value) = entries.entry_at(n);
+                push_key(out, key)?;
+                push_value(out, value)?;
+            }
+            Ok(())
+        }
+        Cell::Object(object) => push_object(out, object),
+    }
+}
+
+/// Every cell with its count, and the queue.
+pub fn shown(alloc: Global, heap: &Heap) -> Result<String, AllocError> {
+    let mut out = String::new(alloc);
+    for slot in &heap.slots {
+        match &slot.cell {
+            None => out.push_str("gone")?,
+            Some(cell) => {
+                write!(out, "{} ", slot.count)?;
+                push_cell(&mut out, cell)?;
+            }
+        }
+        out.push('\n')?;
+    }
+    for node in heap.queued() {
+        write!(out, "queued{} ", node.0)?;
+    }
+    Ok(out)
+}
