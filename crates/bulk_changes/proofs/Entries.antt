@@ -1,7 +1,7 @@
 -- Entries, as they are put into others.
-use Rattle.std.proofs.Common.{◌≡◌, ◌∙◌, ap, sym, refl, ℕ, zero, suc, ◌+◌, ◌≤◌, Bool, true, false, cond, List, [], ◌∷◌, length, take, Option, Some, None, is_some, arith}
-use Rattle.std.specs.Prelude.{not, slice_get, nat_eq}
-use Rattle.std.specs.List.{filter, sum_by}
+use Rattle.std.proofs.Common.{◌≡◌, ◌∙◌, ap, sym, refl, ℕ, zero, suc, ◌+◌, ◌≤◌, Bool, true, false, cond, List, [], ◌∷◌, length, Option, Some, None, is_some, arith}
+use Rattle.std.specs.Prelude.{slice_get, nat_eq, if◌then◌else◌}
+use Rattle.std.specs.List.{sum_by}
 use Rattle.std.specs.Map.{lookup}
 use Rattle.std.specs.Cmp.{bool_eq_equiv}
 use Rattle.std.specs.Cmp.Lexicographic.{pointwise}
@@ -16,9 +16,9 @@ use Rattle.variant_values.specs.declared.values.Value.{Value}
 use Rattle.variant_values.specs.declared.values.Value.TheVariants.{Null}
 use Rattle.variant_values.specs.Keys.{same_key, with_entry, HasKeysOnce}
 use Rattle.variant_values.specs.Places.{entry_weight}
-use Rattle.variant_values.specs.DictMethods.{merged}
+use Rattle.variant_values.specs.DictMethods.{merged, with_missing}
 use Rattle.call_support.proofs.Once.{apart_too}
-use Rattle.bulk_changes.specs.Merges.{key_more, keys_more, lacking, lacks, weight_less, weight_more, weights_less, weights_more}
+use Rattle.bulk_changes.specs.Merges.{key_more, keys_more, weight_less, weight_more, weights_less, weights_more, with_put}
 
 same_text : (a b : List ℕ) → pointwise nat_eq a b ≡ true → a ≡ b
 same_text [] [] h = refl
@@ -105,48 +105,58 @@ put_length (e ∷ es) k v = by (same_key k e.0) (put_length es k v)
     by true later = omega arith
     by false later = omega (arith, later)
 
-pub put_weight : (es : List (Key × Value)) (k : Key) (v : Value) → sum_by entry_weight (with_entry es k v) + weight_less (lookup (same_key k) es) ≡ sum_by entry_weight es + weight_more (lookup (same_key k) es) (k, v)
+pub put_weight : (es : List (Key × Value)) (k : Key) (v : Value) → sum_by entry_weight (with_entry es k v) + weight_less true (lookup (same_key k) es) ≡ sum_by entry_weight es + weight_more true (lookup (same_key k) es) (k, v)
 put_weight [] k v = omega (arith, sum_by-cons entry_weight (k, v) [])
 put_weight (e ∷ es) k v = by (same_key k e.0) (put_weight es k v)
   where
-    by : (b : Bool) → sum_by entry_weight (with_entry es k v) + weight_less (lookup (same_key k) es) ≡ sum_by entry_weight es + weight_more (lookup (same_key k) es) (k, v) → sum_by entry_weight (cond b ((e.0, v) ∷ es) (e ∷ with_entry es k v)) + weight_less (cond b (Some e.1) (lookup (same_key k) es)) ≡ sum_by entry_weight (e ∷ es) + weight_more (cond b (Some e.1) (lookup (same_key k) es)) (k, v)
+    by : (b : Bool) → sum_by entry_weight (with_entry es k v) + weight_less true (lookup (same_key k) es) ≡ sum_by entry_weight es + weight_more true (lookup (same_key k) es) (k, v) → sum_by entry_weight (cond b ((e.0, v) ∷ es) (e ∷ with_entry es k v)) + weight_less true (cond b (Some e.1) (lookup (same_key k) es)) ≡ sum_by entry_weight (e ∷ es) + weight_more true (cond b (Some e.1) (lookup (same_key k) es)) (k, v)
     by true later = omega (arith, sum_by-cons entry_weight (e.0, v) es, sum_by-cons entry_weight e es)
     by false later = omega (arith, sum_by-cons entry_weight e (with_entry es k v), sum_by-cons entry_weight e es, later)
 
-pub less_alike : (es fs : List (Key × Value)) (f : Key × Value) → lookup (same_key f.0) fs ≡ None → weights_less (with_entry es f.0 f.1) fs ≡ weights_less es fs
-less_alike es fs f none = sums_alike (λ o g. weight_less o) es fs f.0 f.1 none
-
-pub less_next : (es fs : List (Key × Value)) (f : Key × Value) → weights_less es (f ∷ fs) ≡ weight_less (lookup (same_key f.0) es) + weights_less es fs
-less_next es fs f = sum_by-cons (λ g. weight_less (lookup (same_key g.0) es)) f fs
-
-pub merged_length : (es fs : List (Key × Value)) → HasKeysOnce fs → length (merged true es fs) ≡ length es + keys_more es fs
-merged_length es [] once = omega arith
-merged_length es (f ∷ fs) once =
-    omega (arith, merged_length (with_entry es f.0 f.1) fs once.1, put_length es f.0 f.1, sums_alike (λ o g. key_more o) es fs f.0 f.1 once.0, sum_by-cons (λ g. key_more (lookup (same_key g.0) es)) f fs)
-
-pub merged_weight : (es fs : List (Key × Value)) → HasKeysOnce fs → sum_by entry_weight (merged true es fs) + weights_less es fs ≡ sum_by entry_weight es + weights_more es fs
-merged_weight es [] once = omega arith
-merged_weight es (f ∷ fs) once =
-    omega (arith, merged_weight (with_entry es f.0 f.1) fs once.1, put_weight es f.0 f.1, less_alike es fs f once.0, less_next es fs f, sums_alike weight_more es fs f.0 f.1 once.0, sum_by-cons (λ g. weight_more (lookup (same_key g.0) es) g) f fs)
-
--- only the entries whose keys are missing are put in where none is overwritten
-lacks_alike : (es fs : List (Key × Value)) (k : Key) (v : Value) → lookup (same_key k) fs ≡ None → lacking (with_entry es k v) fs ≡ lacking es fs
-lacks_alike es [] k v none = refl
-lacks_alike es (g ∷ fs) k v none = by (same_key k g.0) refl none (lacks_alike es fs k v)
+-- where one more is put in that overwrites none
+missing : (P : Option Value → List (Key × Value) → Type 0) (es : List (Key × Value)) (f : Key × Value) → ((v : Value) → P (Some v) es) → (lookup (same_key f.0) es ≡ None → P None (with_entry es f.0 f.1)) → P (lookup (same_key f.0) es) (with_missing es f)
+missing P es f there new = by (lookup (same_key f.0) es) refl
   where
-    by : (b : Bool) → same_key k g.0 ≡ b → cond b (Some g.1) (lookup (same_key k) fs) ≡ None → (lookup (same_key k) fs ≡ None → lacking (with_entry es k v) fs ≡ lacking es fs) → lacking (with_entry es k v) (g ∷ fs) ≡ lacking es (g ∷ fs)
-    by true one h later = cc
-    by false other h later =
-        ap (λ o. cond (not (is_some o)) (g ∷ lacking (with_entry es k v) fs) (lacking (with_entry es k v) fs)) (apart_lookup es k g.0 v (apart_too k g.0 other))
-        ∙ ap (λ us. cond (lacks es g) (g ∷ us) us) (later h)
+    by : (o : Option Value) → lookup (same_key f.0) es ≡ o → P o (if is_some o then es else with_entry es f.0 f.1)
+    by None none = new none
+    by (Some v) found = there v
 
-pub merged_lacking : (es fs : List (Key × Value)) → HasKeysOnce fs → merged true es (lacking es fs) ≡ merged false es fs
-merged_lacking es [] once = refl
-merged_lacking es (f ∷ fs) once = by (is_some (lookup (same_key f.0) es)) (merged_lacking es fs once.1) (ap (merged true (with_entry es f.0 f.1)) (sym (lacks_alike es fs f.0 f.1 once.0)) ∙ merged_lacking (with_entry es f.0 f.1) fs once.1)
+one_length : (overwrite : Bool) (es : List (Key × Value)) (f : Key × Value) → length (with_put overwrite es f) ≡ length es + key_more (lookup (same_key f.0) es)
+one_length true es f = put_length es f.0 f.1
+one_length false es f = missing (λ o us. length us ≡ length es + key_more o) es f (λ v. omega arith) (λ none. put_length es f.0 f.1 ∙ ap (λ o. length es + key_more o) none)
+
+one_weight : (overwrite : Bool) (es : List (Key × Value)) (f : Key × Value) → sum_by entry_weight (with_put overwrite es f) + weight_less overwrite (lookup (same_key f.0) es) ≡ sum_by entry_weight es + weight_more overwrite (lookup (same_key f.0) es) f
+one_weight true es f = put_weight es f.0 f.1
+one_weight false es f = missing (λ o us. sum_by entry_weight us + weight_less false o ≡ sum_by entry_weight es + weight_more false o f) es f (λ v. refl) (λ none. omega (arith, put_weight es f.0 f.1, ap (weight_less true) none, ap (λ o. weight_more true o f) none))
+
+one_alike : (overwrite : Bool) (k : Option Value → Key × Value → ℕ) (es fs : List (Key × Value)) (f : Key × Value) → lookup (same_key f.0) fs ≡ None → sum_by (λ g. k (lookup (same_key g.0) (with_put overwrite es f)) g) fs ≡ sum_by (λ g. k (lookup (same_key g.0) es) g) fs
+one_alike true k es fs f none = sums_alike k es fs f.0 f.1 none
+one_alike false k es fs f none = missing (λ o us. sum_by (λ g. k (lookup (same_key g.0) us) g) fs ≡ sum_by (λ g. k (lookup (same_key g.0) es) g) fs) es f (λ v. refl) (λ lacks. sums_alike k es fs f.0 f.1 none)
+
+pub less_alike : (overwrite : Bool) (es fs : List (Key × Value)) (f : Key × Value) → lookup (same_key f.0) fs ≡ None → weights_less overwrite (with_put overwrite es f) fs ≡ weights_less overwrite es fs
+less_alike overwrite es fs f none = one_alike overwrite (λ o g. weight_less overwrite o) es fs f none
+
+pub less_next : (overwrite : Bool) (es fs : List (Key × Value)) (f : Key × Value) → weights_less overwrite es (f ∷ fs) ≡ weight_less overwrite (lookup (same_key f.0) es) + weights_less overwrite es fs
+less_next overwrite es fs f = sum_by-cons (λ g. weight_less overwrite (lookup (same_key g.0) es)) f fs
+
+-- where none is overwritten nothing gets lighter
+pub none_less : (es fs : List (Key × Value)) → weights_less false es fs ≡ 0
+none_less es [] = refl
+none_less es (f ∷ fs) = less_next false es fs f ∙ by (lookup (same_key f.0) es) (none_less es fs)
   where
-    by : (b : Bool) → merged true es (lacking es fs) ≡ merged false es fs → merged true (with_entry es f.0 f.1) (lacking es fs) ≡ merged false (with_entry es f.0 f.1) fs → merged true es (cond (not b) (f ∷ lacking es fs) (lacking es fs)) ≡ merged false (cond b es (with_entry es f.0 f.1)) fs
-    by true there new = there
-    by false there new = new
+    by : (o : Option Value) → weights_less false es fs ≡ 0 → weight_less false o + weights_less false es fs ≡ 0
+    by None later = omega (arith, later)
+    by (Some v) later = omega (arith, later)
+
+pub merged_length : (overwrite : Bool) (es fs : List (Key × Value)) → HasKeysOnce fs → length (merged overwrite es fs) ≡ length es + keys_more es fs
+merged_length overwrite es [] once = omega arith
+merged_length overwrite es (f ∷ fs) once =
+    omega (arith, merged_length overwrite (with_put overwrite es f) fs once.1, one_length overwrite es f, one_alike overwrite (λ o g. key_more o) es fs f once.0, sum_by-cons (λ g. key_more (lookup (same_key g.0) es)) f fs)
+
+pub merged_weight : (overwrite : Bool) (es fs : List (Key × Value)) → HasKeysOnce fs → sum_by entry_weight (merged overwrite es fs) + weights_less overwrite es fs ≡ sum_by entry_weight es + weights_more overwrite es fs
+merged_weight overwrite es [] once = omega arith
+merged_weight overwrite es (f ∷ fs) once =
+    omega (arith, merged_weight overwrite (with_put overwrite es f) fs once.1, one_weight overwrite es f, less_alike overwrite es fs f once.0, less_next overwrite es fs f, one_alike overwrite (weight_more overwrite) es fs f once.0, sum_by-cons (λ g. weight_more overwrite (lookup (same_key g.0) es) g) f fs)
 
 -- putting a key in anew
 again : (es : List (Key × Value)) (k : Key) (v w : Value) → with_entry (with_entry es k v) k w ≡ with_entry es k w
@@ -200,34 +210,48 @@ found_at (g ∷ fs) (suc i) f at = by (same_key f.0 g.0) (found_at fs i f at)
     by true later = refl
     by false later = later
 
--- no entry before has its key
-pub not_before : (fs : List (Key × Value)) (i : ℕ) (f : Key × Value) → HasKeysOnce fs → slice_get fs i ≡ Some f → lookup (same_key f.0) (take i fs) ≡ None
-not_before [] i f once at = cc
-not_before (g ∷ fs) zero f once at = refl
-not_before (g ∷ fs) (suc i) f once at = by (same_key f.0 g.0) refl (not_before fs i f once.1 at)
-  where
-    by : (b : Bool) → same_key f.0 g.0 ≡ b → lookup (same_key f.0) (take i fs) ≡ None → cond b (Some g.1) (lookup (same_key f.0) (take i fs)) ≡ None
-    by true one later =
-        let none : is_some (lookup (same_key f.0) fs) ≡ false = ap (λ q. is_some (lookup (same_key q) fs)) (same_is f.0 g.0 one) ∙ ap is_some once.0 in
-        absurd (false≢true (sym none ∙ found_at fs i f at))
-    by false other later = later
-
-pub none_filtered : (p : Key × Value → Bool) (fs : List (Key × Value)) (k : Key) → lookup (same_key k) fs ≡ None → lookup (same_key k) (filter p fs) ≡ None
-none_filtered p [] k none = refl
-none_filtered p (g ∷ fs) k none = by (same_key k g.0) refl none (none_filtered p fs k) (p g)
-  where
-    kept : (c : Bool) → same_key k g.0 ≡ false → lookup (same_key k) (filter p fs) ≡ None → lookup (same_key k) (cond c (g ∷ filter p fs) (filter p fs)) ≡ None
-    kept true other later = ap (λ b. cond b (Some g.1) (lookup (same_key k) (filter p fs))) other ∙ later
-    kept false other later = later
-
-    by : (b : Bool) → same_key k g.0 ≡ b → cond b (Some g.1) (lookup (same_key k) fs) ≡ None → (lookup (same_key k) fs ≡ None → lookup (same_key k) (filter p fs) ≡ None) → (c : Bool) → lookup (same_key k) (cond c (g ∷ filter p fs) (filter p fs)) ≡ None
-    by true one h later c = cc
-    by false other h later c = kept c other (later h)
-
 -- null is the lightest value
-pub null_less : (es : List (Key × Value)) (k g : Key) → weight_less (lookup (same_key g) (with_entry es k Null)) ≤ weight_less (lookup (same_key g) es)
+pub null_less : (es : List (Key × Value)) (k g : Key) → weight_less true (lookup (same_key g) (with_entry es k Null)) ≤ weight_less true (lookup (same_key g) es)
 null_less es k g = by (same_key g k) refl
   where
-    by : (b : Bool) → same_key g k ≡ b → weight_less (lookup (same_key g) (with_entry es k Null)) ≤ weight_less (lookup (same_key g) es)
-    by true one = omega (arith, ap (λ q. weight_less (lookup (same_key q) (with_entry es k Null))) (same_is g k one) ∙ ap weight_less (own_lookup es k Null))
-    by false other = omega (arith, ap weight_less (apart_lookup es k g Null other))
+    by : (b : Bool) → same_key g k ≡ b → weight_less true (lookup (same_key g) (with_entry es k Null)) ≤ weight_less true (lookup (same_key g) es)
+    by true one = omega (arith, ap (λ q. weight_less true (lookup (same_key q) (with_entry es k Null))) (same_is g k one) ∙ ap (weight_less true) (own_lookup es k Null))
+    by false other = omega (arith, ap (weight_less true) (apart_lookup es k g Null other))
+
+-- each of some entries is there, with its value
+abbrev HasAll : List (Key × Value) → List (Key × Value) → Type 0
+HasAll es [] = Unit {0}
+HasAll es (f ∷ fs) = (lookup (same_key f.0) es ≡ Some f.1) × HasAll es fs
+
+-- one more stands before them
+has_more : (e : Key × Value) (es fs : List (Key × Value)) → lookup (same_key e.0) fs ≡ None → HasAll es fs → HasAll (e ∷ es) fs
+has_more e es [] none has = tt
+has_more e es (f ∷ fs) none has = by (same_key e.0 f.0) refl none (λ n. has_more e es fs n has.1)
+  where
+    by : (b : Bool) → same_key e.0 f.0 ≡ b → cond b (Some f.1) (lookup (same_key e.0) fs) ≡ None → (lookup (same_key e.0) fs ≡ None → HasAll (e ∷ es) fs) → HasAll (e ∷ es) (f ∷ fs)
+    by true one h later = cc
+    by false other h later = (ap (λ b. cond b (Some e.1) (lookup (same_key f.0) es)) (apart_too e.0 f.0 other) ∙ has.0, later h)
+
+has_own : (es : List (Key × Value)) → HasKeysOnce es → HasAll es es
+has_own [] once = tt
+has_own (e ∷ es) once = (ap (λ b. cond b (Some e.1) (lookup (same_key e.0) es)) (same_own e.0), has_more e es es once.0 (has_own es once.1))
+
+put_there : (es : List (Key × Value)) (f : Key × Value) → lookup (same_key f.0) es ≡ Some f.1 → with_entry es f.0 f.1 ≡ es
+put_there [] f is = cc
+put_there (e ∷ es) f is = by (same_key f.0 e.0) is (put_there es f)
+  where
+    by : (b : Bool) → cond b (Some e.1) (lookup (same_key f.0) es) ≡ Some f.1 → (lookup (same_key f.0) es ≡ Some f.1 → with_entry es f.0 f.1 ≡ es) → cond b ((e.0, f.1) ∷ es) (e ∷ with_entry es f.0 f.1) ≡ e ∷ es
+    by true h later = let same : e.1 ≡ f.1 = cc in ap (λ v. (e.0, v) ∷ es) (sym same)
+    by false h later = ap (λ us. e ∷ us) (later h)
+
+one_there : (overwrite : Bool) (es : List (Key × Value)) (f : Key × Value) → lookup (same_key f.0) es ≡ Some f.1 → with_put overwrite es f ≡ es
+one_there true es f is = put_there es f is
+one_there false es f is = ap (λ o. if is_some o then es else with_entry es f.0 f.1) is
+
+all_there : (overwrite : Bool) (es fs : List (Key × Value)) → HasAll es fs → merged overwrite es fs ≡ es
+all_there overwrite es [] has = refl
+all_there overwrite es (f ∷ fs) has = ap (λ us. merged overwrite us fs) (one_there overwrite es f has.0) ∙ all_there overwrite es fs has.1
+
+-- entries put into themselves change nothing
+pub merged_own : (overwrite : Bool) (es : List (Key × Value)) → HasKeysOnce es → merged overwrite es es ≡ es
+merged_own overwrite es once = all_there overwrite es es (has_own es once)

@@ -1,3 +1,4 @@
 pub mod Growing
 pub mod Entries
 pub mod Merging
+pub mod Merged

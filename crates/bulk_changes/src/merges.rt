@@ -1,74 +1,23 @@
-ghost use Rattle.std.specs.Prelude.{◌≡◌, ◌+◌, ◌<◌, ◌≤◌, ◌^◌, true, length, cond, is_some, option_copied, IfOk, IfErr, OnOk, Err};
+ghost use Rattle.std.specs.Prelude.{◌≡◌, ◌≢◌, ◌+◌, ◌<◌, ◌≤◌, ◌^◌, true, length, cond, is_some, option_copied, slice_get, Some, IfOk, IfErr, OnOk, Err};
 ghost use Rattle.std.specs.Map.{lookup};
+ghost use Rattle.variant_values.specs.declared.values.Key.{Key as AKey};
+ghost use Rattle.variant_values.specs.declared.values.Value.{Value as AValue};
 ghost use Rattle.variant_values.specs.declared.values.Value.TheVariants.{Null};
-ghost use Rattle.variant_values.specs.Keys.{same_key, with_entry, HasKeysOnce};
+ghost use Rattle.variant_values.specs.Keys.{same_key, HasKeysOnce};
 ghost use Rattle.variant_values.specs.Places.{weight};
-ghost use Rattle.variant_values.specs.Heaps.{cell_at, is_dict, knows, knows_key, with_entry_at, KnowsEntries};
+ghost use Rattle.variant_values.specs.Heaps.{cell_at, is_dict, knows, knows_key, with_entry_at};
 ghost use Rattle.variant_values.specs.Changes.{Keeps, HasGiven, counted, weighed};
 ghost use Rattle.variant_values.specs.DictMethods.{entries_in, merge_of, merged, with_entries};
-ghost use Rattle.bulk_changes.specs.Merges.{key_more, keys_more, lacking, lacks, weight_less, weight_more, weights_less, weights_more, IsBlanked};
+ghost use Rattle.bulk_changes.specs.Merges.{key_more, keys_more, weight_less, weight_more, weights_less, weights_more, with_put, HasNulls};
 
 use call_support::changes::set_entry;
-use call_support::copies::{copied_entries, enter_copy};
 use call_support::views::entries;
+use call_support::walks::MOST_ITEMS;
 use ref_objects::heap::Heap;
-use std::alloc::{AllocError, Global};
 use variant_values::entries::Entries;
 use variant_values::faults::{RunFault, Trouble};
 use variant_values::values::{Key, Serial, Value};
 use variant_values::weights::{entry_weight, text_weight};
-
-/// How many entries a dictionary may have.
-const MOST_ENTRIES: usize = 1_048_576;
-
-/// Puts a copy of an entry in, where another dictionary lacks its key.
-fn enter_lacking(
-    copy: &mut Entries,
-    entries: &Entries,
-    key: &Key,
-    value: &Value,
-) -> Result<(), AllocError>
-    ensures { OnOk result (copy.new ≡ cond (lacks entries.now (key.now, value.now)) (with_entry copy.old key.now value.now) copy.old) }
-{
-    if entries.get(key).is_none() {
-        enter_copy(copy, key, value)?;
-    }
-    Ok(())
-}
-
-/// Copies of the entries whose keys another dictionary lacks.
-fn lacking(alloc: Global, entries: &Entries, other: &Entries) -> Result<Entries, AllocError>
-    requires { HasKeysOnce other.now }
-    ensures { IfOk result (λ copy. copy ≡ lacking entries.now other.now) }
-{
-    let mut copy = Entries::new(alloc);
-    for i in 0..other.len() {
-        let (key, value) = other.entry_at(i);
-        enter_lacking(&mut copy, entries, key, value)?;
-    }
-    Ok(copy)
-}
-
-/// Copies of the entries that a merge puts in.
-fn to_put(
-    alloc: Global,
-    heap: &Heap,
-    of: Serial,
-    other: Serial,
-    overwrite: bool,
-) -> Result<Entries, AllocError>
-    requires dict { is_dict (cell_at heap.now.cells of.0) ≡ true }
-    requires other { is_dict (cell_at heap.now.cells other.0) ≡ true }
-    ensures outcome { IfOk result (λ put. merged true (entries_in heap.now of.0) put ≡ merged overwrite (entries_in heap.now of.0) (entries_in heap.now other.0)) }
-    ensures known { IfOk result (λ put. KnowsEntries heap.now.cells put) }
-    ensures few { IfOk result (λ put. length put ≤ 67108864) }
-{
-    if overwrite {
-        copied_entries(alloc, entries(heap, other))
-    } else {
-        lacking(alloc, entries(heap, of), entries(heap, other))
-    }
-}
 
 /// What entries that are put in change.
 #[derive(Clone, Copy)]
@@ -79,23 +28,30 @@ struct Tally {
 }
 
 /// Adds what one entry changes, by the value before.
-fn add_entry(tally: Tally, before: Option<&Value>, key: &Key, value: &Value) -> Tally
+fn add_entry(
+    tally: Tally,
+    overwrite: bool,
+    before: Option<&Value>,
+    key: &Key,
+    value: &Value,
+) -> Tally
     requires keys { tally.keys < 2 ^ 32 }
     requires more { tally.more < 2 ^ 120 }
     requires less { tally.less < 2 ^ 120 }
     ensures keys { result.keys ≡ tally.keys + key_more (option_copied before.entry) }
-    ensures more { result.more ≡ tally.more + weight_more (option_copied before.entry) (key.now, value.now) }
-    ensures less { result.less ≡ tally.less + weight_less (option_copied before.entry) }
+    ensures more { result.more ≡ tally.more + weight_more overwrite (option_copied before.entry) (key.now, value.now) }
+    ensures less { result.less ≡ tally.less + weight_less overwrite (option_copied before.entry) }
     ensures few { result.keys ≤ tally.keys + 1 }
     ensures more_fits { result.more < tally.more + 2 ^ 65 }
     ensures less_fits { result.less < tally.less + 2 ^ 65 }
 {
     match before {
-        Some(old) => Tally {
+        Some(old) if overwrite => Tally {
             keys: tally.keys,
             more: tally.more + text_weight(value) as u128,
             less: tally.less + text_weight(old) as u128,
         },
+        Some(_) => tally,
         None => Tally {
             keys: tally.keys + 1,
             more: tally.more + entry_weight(key, value),
@@ -105,11 +61,11 @@ fn add_entry(tally: Tally, before: Option<&Value>, key: &Key, value: &Value) -> 
 }
 
 /// What entries change that are put in.
-fn sum_up(entries: &Entries, put: &Entries) -> Tally
+fn sum_up(entries: &Entries, put: &Entries, overwrite: bool) -> Tally
     requires { length put.now ≤ 67108864 }
     ensures keys { result.keys ≡ keys_more entries.now put.now }
-    ensures more { result.more ≡ weights_more entries.now put.now }
-    ensures less { result.less ≡ weights_less entries.now put.now }
+    ensures more { result.more ≡ weights_more overwrite entries.now put.now }
+    ensures less { result.less ≡ weights_less overwrite entries.now put.now }
     ensures few { result.keys ≤ 67108864 }
     ensures less_fits { result.less < 2 ^ 120 }
 {
@@ -120,23 +76,23 @@ fn sum_up(entries: &Entries, put: &Entries) -> Tally
     };
     for i in 0..put.len() {
         let (key, value) = put.entry_at(i);
-        tally = add_entry(tally, entries.get(key), key, value);
+        tally = add_entry(tally, overwrite, entries.get(key), key, value);
     }
     tally
 }
 
-/// Whether the entries may all be put in. It is decided on the whole, before anything changes.
-fn fits(heap: &Heap, of: Serial, put: &Entries) -> Result<(), RunFault>
+/// Whether the entries of another dictionary may all be put in. It is decided on the whole, before anything changes.
+fn fits(heap: &Heap, of: Serial, other: Serial, overwrite: bool) -> Result<(), RunFault>
     requires dict { is_dict (cell_at heap.now.cells of.0) ≡ true }
-    requires few { length put.now ≤ 67108864 }
-    requires once { HasKeysOnce put.now }
-    ensures count { OnOk result (length (merged true (entries_in heap.now of.0) put.now) ≤ 1048576) }
-    ensures light { OnOk result (weight (with_entries heap.now of.0 (merged true (entries_in heap.now of.0) put.now)).cells ≤ 67108864) }
-    ensures err { IfErr result (λ fault. counted (length (merged true (entries_in heap.now of.0) put.now)) (weighed (with_entries heap.now of.0 (merged true (entries_in heap.now of.0) put.now)) Null) ≡ Err fault) }
+    requires other { is_dict (cell_at heap.now.cells other.0) ≡ true }
+    ensures count { OnOk result (length (merged overwrite (entries_in heap.now of.0) (entries_in heap.now other.0)) ≤ 1048576) }
+    ensures light { OnOk result (weight (with_entries heap.now of.0 (merged overwrite (entries_in heap.now of.0) (entries_in heap.now other.0))).cells ≤ 67108864) }
+    ensures once { HasKeysOnce (entries_in heap.now other.0) }
+    ensures err { IfErr result (λ fault. merge_of heap.now of.0 other.0 overwrite ≡ Err fault) }
 {
-    let entries = entries(heap, of);
-    let tally = sum_up(entries, put);
-    if entries.len() as u64 + tally.keys > MOST_ENTRIES as u64 {
+    let (before, put) = (entries(heap, of), entries(heap, other));
+    let tally = sum_up(before, put, overwrite);
+    if before.len() as u64 + tally.keys > MOST_ITEMS {
         return Err(RunFault::TooLong);
     }
     if tally.more > heap.room() as u128 + tally.less {
@@ -145,99 +101,138 @@ fn fits(heap: &Heap, of: Serial, put: &Entries) -> Result<(), RunFault>
     Ok(())
 }
 
-/// Puts a copy of an entry in, which the heap has room for.
-fn enter(heap: &mut Heap, of: Serial, key: &Key, value: &Value) -> Result<(), Trouble>
+/// Puts an entry in, which the heap has room for.
+fn enter(heap: &mut Heap, of: Serial, key: Key, value: Value) -> Result<(), Trouble>
     requires dict { is_dict (cell_at heap.old.cells of.0) ≡ true }
-    requires key { knows_key heap.old.cells key.now ≡ true }
-    requires value { knows heap.old.cells value.now ≡ true }
-    requires room { weight (with_entry_at heap.old of.0 key.now value.now).cells ≤ 67108864 }
-    ensures ok { OnOk result (heap.new ≡ with_entry_at heap.old of.0 key.now value.now) }
+    requires key { knows_key heap.old.cells key ≡ true }
+    requires value { knows heap.old.cells value ≡ true }
+    requires room { weight (with_entry_at heap.old of.0 key value).cells ≤ 67108864 }
+    ensures ok { OnOk result (heap.new ≡ with_entry_at heap.old of.0 key value) }
     ensures memory { IfErr result (λ e. e ≡ Trouble.NoMemory) }
     ensures keeps { Keeps heap.old.cells heap.new.cells }
 {
-    set_entry(heap, of, key.clone()?, value.clone()?)
+    set_entry(heap, of, key, value)
 }
 
-/// Makes the value of a key null, where it is there. Null is the lightest value.
-fn blank(heap: &mut Heap, of: Serial, key: &Key) -> Result<(), Trouble>
+/// Makes the value null that another dictionary's key at an index has, where it is there. Null is the lightest value.
+fn set_null_at(heap: &mut Heap, of: Serial, other: Serial, index: usize) -> Result<(), Trouble>
     requires dict { is_dict (cell_at heap.old.cells of.0) ≡ true }
-    requires key { knows_key heap.old.cells key.now ≡ true }
-    ensures ok { OnOk result (heap.new ≡ cond (is_some (lookup (same_key key.now) (entries_in heap.old of.0))) (with_entry_at heap.old of.0 key.now Null) heap.old) }
+    requires other { is_dict (cell_at heap.old.cells other.0) ≡ true }
+    requires index { index < length (entries_in heap.old other.0) }
+    ensures ok { OnOk result ((f : AKey × AValue) → slice_get (entries_in heap.old other.0) index ≡ Some f → heap.new ≡ cond (is_some (lookup (same_key f.0) (entries_in heap.old of.0))) (with_entry_at heap.old of.0 f.0 Null) heap.old) }
     ensures memory { IfErr result (λ e. e ≡ Trouble.NoMemory) }
     ensures keeps { Keeps heap.old.cells heap.new.cells }
 {
     heap.is_sound();
+    let (key, _) = entries(heap, other).entry_at(index);
     if entries(heap, of).get(key).is_some() {
-        enter(heap, of, key, &Value::Null)
+        let key = key.clone()?;
+        enter(heap, of, key, Value::Null)
     } else {
         Ok(())
     }
 }
 
 /// Makes the value of each key null that is there and is put in, so that the weight only rises afterwards.
-fn blank_all(heap: &mut Heap, of: Serial, put: &Entries) -> Result<(), Trouble>
+fn set_nulls(heap: &mut Heap, of: Serial, other: Serial) -> Result<(), Trouble>
     requires dict { is_dict (cell_at heap.old.cells of.0) ≡ true }
-    requires known { KnowsEntries heap.old.cells put.now }
-    ensures ok { OnOk result (IsBlanked heap.old heap.new of.0 put.now put.now) }
+    requires other { is_dict (cell_at heap.old.cells other.0) ≡ true }
+    requires apart { other.0 ≢ of.0 }
+    ensures ok { OnOk result (HasNulls heap.old heap.new of.0 (entries_in heap.old other.0) (entries_in heap.old other.0)) }
     ensures memory { IfErr result (λ e. e ≡ Trouble.NoMemory) }
     ensures keeps { Keeps heap.old.cells heap.new.cells }
 {
-    for i in 0..put.len() {
-        let (key, _) = put.entry_at(i);
-        blank(heap, of, key)?;
+    for i in 0..entries(heap, other).len() {
+        set_null_at(heap, of, other, i)?;
     }
     Ok(())
 }
 
-/// Puts copies of entries in, where the heap has room for all, and the values that they overwrite weigh nothing.
-fn enter_all(heap: &mut Heap, of: Serial, put: &Entries) -> Result<(), Trouble>
-    requires dict { is_dict (cell_at heap.old.cells of.0) ≡ true }
-    requires known { KnowsEntries heap.old.cells put.now }
-    requires once { HasKeysOnce put.now }
-    requires light { weights_less (entries_in heap.old of.0) put.now ≡ 0 }
-    requires room { weight (with_entries heap.old of.0 (merged true (entries_in heap.old of.0) put.now)).cells ≤ 67108864 }
-    ensures ok { OnOk result (heap.new ≡ with_entries heap.old of.0 (merged true (entries_in heap.old of.0) put.now)) }
-    ensures memory { IfErr result (λ e. e ≡ Trouble.NoMemory) }
-    ensures keeps { Keeps heap.old.cells heap.new.cells }
-{
-    for i in 0..put.len() {
-        let (key, value) = put.entry_at(i);
-        enter(heap, of, key, value)?;
-    }
-    Ok(())
-}
-
-/// Puts copies of entries in, where the heap has room for all.
-fn put_whole(heap: &mut Heap, of: Serial, put: &Entries) -> Result<(), Trouble>
-    requires dict { is_dict (cell_at heap.old.cells of.0) ≡ true }
-    requires known { KnowsEntries heap.old.cells put.now }
-    requires once { HasKeysOnce put.now }
-    requires room { weight (with_entries heap.old of.0 (merged true (entries_in heap.old of.0) put.now)).cells ≤ 67108864 }
-    ensures ok { OnOk result (heap.new ≡ with_entries heap.old of.0 (merged true (entries_in heap.old of.0) put.now)) }
-    ensures memory { IfErr result (λ e. e ≡ Trouble.NoMemory) }
-    ensures keeps { Keeps heap.old.cells heap.new.cells }
-{
-    blank_all(heap, of, put)?;
-    enter_all(heap, of, put)
-}
-
-/// Puts the entries of another dictionary in. A present key keeps its place, and its value where none is overwritten.
-pub fn merge(
-    alloc: Global,
+/// Puts a copy of another dictionary's entry in, which the heap has room for, where its key is missing or its value overwritten.
+fn enter_at(
     heap: &mut Heap,
     of: Serial,
     other: Serial,
+    index: usize,
     overwrite: bool,
-) -> Result<Value, Trouble>
+) -> Result<(), Trouble>
+    requires dict { is_dict (cell_at heap.old.cells of.0) ≡ true }
+    requires other { is_dict (cell_at heap.old.cells other.0) ≡ true }
+    requires index { index < length (entries_in heap.old other.0) }
+    requires room { (f : AKey × AValue) → slice_get (entries_in heap.old other.0) index ≡ Some f → weight (with_entries heap.old of.0 (with_put overwrite (entries_in heap.old of.0) f)).cells ≤ 67108864 }
+    ensures ok { OnOk result ((f : AKey × AValue) → slice_get (entries_in heap.old other.0) index ≡ Some f → heap.new ≡ with_entries heap.old of.0 (with_put overwrite (entries_in heap.old of.0) f)) }
+    ensures memory { IfErr result (λ e. e ≡ Trouble.NoMemory) }
+    ensures keeps { Keeps heap.old.cells heap.new.cells }
+{
+    let (key, value) = entries(heap, other).entry_at(index);
+    if !overwrite && entries(heap, of).get(key).is_some() {
+        return Ok(());
+    }
+    let (key, value) = (key.clone()?, value.clone()?);
+    enter(heap, of, key, value)
+}
+
+/// Puts copies of another dictionary's entries in, where the heap has room for all, and the values that they overwrite weigh
+/// nothing.
+fn enter_all(heap: &mut Heap, of: Serial, other: Serial, overwrite: bool) -> Result<(), Trouble>
+    requires dict { is_dict (cell_at heap.old.cells of.0) ≡ true }
+    requires other { is_dict (cell_at heap.old.cells other.0) ≡ true }
+    requires apart { other.0 ≢ of.0 }
+    requires light { weights_less overwrite (entries_in heap.old of.0) (entries_in heap.old other.0) ≡ 0 }
+    requires room { weight (with_entries heap.old of.0 (merged overwrite (entries_in heap.old of.0) (entries_in heap.old other.0))).cells ≤ 67108864 }
+    ensures ok { OnOk result (heap.new ≡ with_entries heap.old of.0 (merged overwrite (entries_in heap.old of.0) (entries_in heap.old other.0))) }
+    ensures memory { IfErr result (λ e. e ≡ Trouble.NoMemory) }
+    ensures keeps { Keeps heap.old.cells heap.new.cells }
+{
+    for i in 0..entries(heap, other).len() {
+        enter_at(heap, of, other, i, overwrite)?;
+    }
+    Ok(())
+}
+
+/// Puts copies of another dictionary's entries in, each over the value before, where the heap has room for all.
+fn overwrite_all(heap: &mut Heap, of: Serial, other: Serial) -> Result<(), Trouble>
+    requires dict { is_dict (cell_at heap.old.cells of.0) ≡ true }
+    requires other { is_dict (cell_at heap.old.cells other.0) ≡ true }
+    requires apart { other.0 ≢ of.0 }
+    requires room { weight (with_entries heap.old of.0 (merged true (entries_in heap.old of.0) (entries_in heap.old other.0))).cells ≤ 67108864 }
+    ensures ok { OnOk result (heap.new ≡ with_entries heap.old of.0 (merged true (entries_in heap.old of.0) (entries_in heap.old other.0))) }
+    ensures memory { IfErr result (λ e. e ≡ Trouble.NoMemory) }
+    ensures keeps { Keeps heap.old.cells heap.new.cells }
+{
+    set_nulls(heap, of, other)?;
+    enter_all(heap, of, other, true)
+}
+
+/// Puts copies of another dictionary's entries in, where the heap has room for all.
+fn put_all(heap: &mut Heap, of: Serial, other: Serial, overwrite: bool) -> Result<(), Trouble>
+    requires dict { is_dict (cell_at heap.old.cells of.0) ≡ true }
+    requires other { is_dict (cell_at heap.old.cells other.0) ≡ true }
+    requires apart { other.0 ≢ of.0 }
+    requires room { weight (with_entries heap.old of.0 (merged overwrite (entries_in heap.old of.0) (entries_in heap.old other.0))).cells ≤ 67108864 }
+    ensures ok { OnOk result (heap.new ≡ with_entries heap.old of.0 (merged overwrite (entries_in heap.old of.0) (entries_in heap.old other.0))) }
+    ensures memory { IfErr result (λ e. e ≡ Trouble.NoMemory) }
+    ensures keeps { Keeps heap.old.cells heap.new.cells }
+{
+    if overwrite {
+        overwrite_all(heap, of, other)
+    } else {
+        enter_all(heap, of, other, overwrite)
+    }
+}
+
+/// Puts the entries of another dictionary in. A present key keeps its place, and its value where none is overwritten.
+pub fn merge(heap: &mut Heap, of: Serial, other: Serial, overwrite: bool) -> Result<Value, Trouble>
     requires dict { is_dict (cell_at heap.old.cells of.0) ≡ true }
     requires other { is_dict (cell_at heap.old.cells other.0) ≡ true }
     ensures given { HasGiven result heap.old heap.new (merge_of heap.old of.0 other.0 overwrite) }
     ensures keeps { Keeps heap.old.cells heap.new.cells }
     ensures known { IfOk result (λ v. knows heap.new.cells v ≡ true) }
 {
-    let put = to_put(alloc, heap, of, other, overwrite)?;
-    put.keys_once();
-    fits(heap, of, &put)?;
-    put_whole(heap, of, &put)?;
+    fits(heap, of, other, overwrite)?;
+    if other.0 == of.0 {
+        return Ok(Value::Null);
+    }
+    put_all(heap, of, other, overwrite)?;
     Ok(Value::Null)
 }

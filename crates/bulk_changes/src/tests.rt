@@ -169,7 +169,7 @@ fn check_merge(
     requires other { knows heap.old.cells (Value.Dict other) ≡ true }
     ensures { Keeps heap.old.cells heap.new.cells }
 {
-    let answer = merge(rt.alloc(), heap, s, other, case.0);
+    let answer = merge(heap, s, other, case.0);
     assert_eq!(rt; shown(rt.alloc(), &answer)?.as_str(), case.1);
     assert_eq!(rt;
         entries_text(rt.alloc(), entries(heap, s))?.as_str(),

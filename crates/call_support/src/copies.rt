@@ -1,14 +1,15 @@
 // Copies of entries.
-ghost use Rattle.std.specs.Prelude.{◌≡◌, IfOk, OnOk};
+ghost use Rattle.std.specs.Prelude.{◌≡◌, IfOk, OnErr, OnOk};
 ghost use Rattle.variant_values.specs.Keys.{HasKeysOnce, with_entry};
 
 use std::alloc::{AllocError, Global};
 use variant_values::entries::Entries;
 use variant_values::values::{Key, Value};
 
-/// Puts a copy of an entry in.
+/// Puts a copy of an entry in. Where memory runs out, the entries stay as they are.
 pub fn enter_copy(entries: &mut Entries, key: &Key, value: &Value) -> Result<(), AllocError>
-    ensures { OnOk result (entries.new ≡ with_entry entries.old key.now value.now) }
+    ensures ok { OnOk result (entries.new ≡ with_entry entries.old key.now value.now) }
+    ensures err { OnErr result (entries.new ≡ entries.old) }
 {
     entries.insert(key.clone()?, value.clone()?)?;
     Ok(())

@@ -17,7 +17,7 @@ use Rattle.variant_values.specs.Operators.{is_text}
 use Rattle.std.specs.List.{list_all}
 use Rattle.std.proofs.lemmas.Bool.{cases_lt, and_parts}
 use Rattle.std.proofs.lemmas.List.Elements.{All-cons, All-head, All-tail}
-use Rattle.std.proofs.lemmas.List.Sorted.{sum_by-IsPermutation, All-permutation, ranks_by}
+use Rattle.std.proofs.lemmas.List.Sorted.{sum_by-IsPermutation, All-permutation, IsPermutation-cons, IsPermutation-insert, IsPermutation-refl, IsPermutation-trans, ranks_by}
 use Rattle.std.proofs.lemmas.List.Sums.{sum_by-cons}
 use Rattle.variant_values.specs.declared.values.Value.{Value}
 use Rattle.variant_values.specs.ArrayMethods.{put_in, in_order, is_number, number_before, number_in, text_before, text_in}
@@ -34,6 +34,19 @@ module _ (lt : Value → Value → Bool) (P : Value → Type 0) where
   pub order_all : (vs : List Value) → All P vs → All P (in_order lt vs)
   order_all [] a = a
   order_all (v ∷ vs) a = put_all v (in_order lt vs) (All-head P v vs a) (order_all vs (All-tail P v vs a))
+
+module _ (lt : Value → Value → Bool) where
+  put_same : (v : Value) (us : List Value) → IsPermutation (v ∷ us) (put_in lt v us)
+  put_same v [] = IsPermutation-refl (v ∷ [])
+  put_same v (u ∷ us) = by (put_same v us) (lt u v)
+    where
+      by : IsPermutation (v ∷ us) (put_in lt v us) → (b : Bool) → IsPermutation (v ∷ u ∷ us) (cond b (u ∷ put_in lt v us) (v ∷ u ∷ us))
+      by later true = IsPermutation-trans (v ∷ u ∷ us) (u ∷ v ∷ us) (u ∷ put_in lt v us) (IsPermutation-insert (u ∷ us) 1 v) (IsPermutation-cons u (v ∷ us) (put_in lt v us) later)
+      by later false = IsPermutation-refl (v ∷ u ∷ us)
+
+  pub order_same : (vs : List Value) → IsPermutation vs (in_order lt vs)
+  order_same [] = IsPermutation-refl []
+  order_same (v ∷ vs) = IsPermutation-trans (v ∷ vs) (v ∷ in_order lt vs) (put_in lt v (in_order lt vs)) (IsPermutation-cons v vs (in_order lt vs) (order_same vs)) (put_same v (in_order lt vs))
 
 module _ (lt : Value → Value → Bool) (o : IsStrictWeakOrder lt) where
   abbrev Least : Value → List Value → Type 0
@@ -81,6 +94,18 @@ module _ (lt : Value → Value → Bool) (o : IsStrictWeakOrder lt) where
   order_up : (vs : List Value) → Up (in_order lt vs)
   order_up [] = tt
   order_up (v ∷ vs) = put_up v (in_order lt vs) (order_up vs)
+
+  next_sorted : (v w : Value) (ws : List Value) → lt w v ≡ false → IsSortedBy lt (w ∷ ws) → (k : ℕ) (d : Value) → k + 1 < length (v ∷ w ∷ ws) → lt (get_or (v ∷ w ∷ ws) (k + 1) d) (get_or (v ∷ w ∷ ws) k d) ≡ false
+  next_sorted v w ws h s zero d l = h
+  next_sorted v w ws h s (suc k) d l = let next : suc (k + 1) ≡ suc k + 1 = omega arith in subst (λ m. lt (get_or (v ∷ w ∷ ws) m d) (get_or (v ∷ w ∷ ws) (suc k) d) ≡ false) next (s k d (omega arith) (omega (arith, l)))
+
+  up_sorted : (vs : List Value) → Up vs → IsSortedBy lt vs
+  up_sorted [] u = λ k d m l. absurd (omega (arith, l))
+  up_sorted (v ∷ []) u = λ k d m l. absurd (omega (arith, l))
+  up_sorted (v ∷ w ∷ ws) u = λ k d m l. next_sorted v w ws u.0.0 (up_sorted (w ∷ ws) u.1) k d l
+
+  pub order_sorted : (vs : List Value) → IsSortedBy lt (in_order lt vs)
+  order_sorted vs = up_sorted (in_order lt vs) (order_up vs)
 
   sum_put : (f : Value → ℕ) (v : Value) (us : List Value) → sum_by f (put_in lt v us) ≡ f v + sum_by f us
   sum_put f v [] = sum_by-cons f v []

@@ -114,14 +114,6 @@ some_entry (e ∷ es) i l = (get_or (e ∷ es) i e, slice_get-get_or (e ∷ es) 
 pub entries_full : (f : Value → Value → ℕ → Walk) (es fs : List (Key × Value)) (i left : ℕ) (whole : Walk) → i < length es → whole ≡ same_entries f (drop i es) fs left → left ≡ 0 → Err TooDeep ≡ whole
 entries_full f es fs i left whole l h z = let e = some_entry es i l in entries_closed f es fs i left e.0 whole e.1 h z
 
--- what an entry holds is known, also where it is found by its key
+-- what an entry holds is known
 pub entry_known : (cells : List (Option Cell)) (es : List (Key × Value)) (i : ℕ) (e : Key × Value) → KnowsEntries cells es → slice_get es i ≡ Some e → (knows_key cells e.0 ≡ true) × (knows cells e.1 ≡ true)
 entry_known cells es i e k at = subst (λ (x : Key × Value). (knows_key cells x.0 ≡ true) × (knows cells x.1 ≡ true)) (get_or_from_slice_get es i e e at) (k i e (slice_get_within es i e at))
-
-pub found_known : (cells : List (Option Cell)) (es : List (Key × Value)) (p : Key → Bool) (w : Value) → KnowsEntries cells es → lookup p es ≡ Some w → knows cells w ≡ true
-found_known cells [] p w k found = cc
-found_known cells (e ∷ es) p w k found = by (p e.0) found (found_known cells es p w (λ i d l. k (suc i) d (omega (arith, l))))
-  where
-    by : (b : Bool) → cond b (Some e.1) (lookup p es) ≡ Some w → (lookup p es ≡ Some w → knows cells w ≡ true) → knows cells w ≡ true
-    by true g later = let same : e.1 ≡ w = cc in subst (λ (x : Value). knows cells x ≡ true) same (k 0 e (omega arith)).1
-    by false g later = later g

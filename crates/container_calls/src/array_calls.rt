@@ -3,7 +3,7 @@ ghost use Rattle.std.specs.Prelude.{◌≡◌, [], ◌∷◌, true, IfOk};
 ghost use Rattle.variant_values.specs.Heaps.{cell_at, is_array, knows, KnowsAll};
 ghost use Rattle.variant_values.specs.StringMethods.{array_in, int_in, with_given};
 ghost use Rattle.variant_values.specs.Changes.{HasGiven, Keeps};
-ghost use Rattle.variant_values.specs.ArrayMethods.{append_array_of, insert_of, remove_at_of, slice_from_of, slice_of};
+ghost use Rattle.variant_values.specs.ArrayMethods.{append_array_of, remove_at_of, slice_from_of};
 ghost use Rattle.variant_values.specs.ContainerCalls.{array_call_of, truth_in};
 ghost use Rattle.variant_values.specs.Copies.{array_duplicate_of};
 ghost use Rattle.variant_values.specs.Resizes.{resize_of};
@@ -20,7 +20,7 @@ use variant_values::faults::{RunFault, Trouble};
 use variant_values::values::{Serial, Value};
 
 /// Where the number of arguments or the kind of one is wrong.
-pub const BAD_ARGS: Trouble = Trouble::Fault(RunFault::BadArgs);
+pub(crate) const BAD_ARGS: Trouble = Trouble::Fault(RunFault::BadArgs);
 
 fn with_none(
     alloc: Global,

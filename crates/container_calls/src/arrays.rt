@@ -4,7 +4,7 @@ ghost use Rattle.variant_values.specs.Heaps.{cell_at, is_array, knows, with_spli
 ghost use Rattle.variant_values.specs.Operators.{Answers};
 ghost use Rattle.variant_values.specs.Changes.{Keeps, HasGiven, weighed};
 ghost use Rattle.variant_values.specs.Comparisons.{count_equal, first_equal, same_value};
-ghost use Rattle.variant_values.specs.ArrayMethods.{append_array_of, append_of, back_of, between, clear_of, count_of, cut, emptiness_of, erase_of, fill_of, find_of, front_of, has_of, insert_of, item_or_null, items_at, place_number, pop_back_of, pop_front_of, popped, push_front_of, put_of, remove_at_of, removed, reverse_of, shallow_of, size_of, slice_from_of, slice_of, spot_between};
+ghost use Rattle.variant_values.specs.ArrayMethods.{append_array_of, append_of, back_of, between, clear_of, count_of, cut, emptiness_of, erase_of, fill_of, find_of, front_of, has_of, insert_of, item_or_null, items_at, place_number, pop_back_of, pop_front_of, popped, push_front_of, put_of, remove_at_of, reverse_of, shallow_of, size_of, slice_from_of, slice_of, spot_between};
 
 use crate::comparisons::{count_equal, first_equal};
 use crate::elements::{all_taken, is_taken};

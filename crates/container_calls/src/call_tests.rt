@@ -151,10 +151,11 @@ fn methods_of_arrays_without_arguments(rt: HostRuntime) -> Result<(), Fail> {
         (ArrayMethod::Back, Args::None, "7", "5 6 7 "),
         (ArrayMethod::Clear, Args::None, "null", ""),
         (ArrayMethod::Reverse, Args::None, "null", "7 6 5 "),
-        (ArrayMethod::Sort, Args::None, "null", "5 6 7 "),
         (ArrayMethod::Duplicate, Args::None, "5 6 7 ", "5 6 7 "),
     ];
     check_arrays(&rt, THREE_NUMBERS, &cases)?;
+    let sort = (ArrayMethod::Sort, Args::None, "null", "5 6 7 ");
+    check_array(&rt, Sample::Numbers(&[7, 5, 6]), &sort)?;
     let one = Args::One(Sample::Number(1));
     let refused = [
         (ArrayMethod::Size, one),

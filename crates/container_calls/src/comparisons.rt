@@ -5,17 +5,15 @@ ghost use Rattle.variant_values.specs.Comparisons.{by_test, count_equal, equalit
 ghost use Rattle.container_calls.specs.Walks.{arrays_at, dicts_at, is_no, left_of};
 
 use call_support::views::{entries, items};
+use call_support::walks::{MOST_ITEMS, MOST_LEVELS};
 use ref_objects::heap::Heap;
 use variant_values::entries::Entries;
 use variant_values::faults::RunFault;
 use variant_values::operators::equal;
 use variant_values::values::{Serial, Value};
 
-/// The levels of containers that one walk may open.
-const LEVELS: u32 = 64;
-
 /// The items that one walk may come to.
-const ITEMS: u32 = 1_048_576;
+const ITEMS: u32 = MOST_ITEMS as u32;
 
 fn compared(answer: Option<bool>, room: u32) -> Option<u32>
     ensures { Ok result ≡ compared answer room }
@@ -211,7 +209,7 @@ pub fn same_value(heap: &Heap, a: &Value, b: &Value) -> Result<bool, RunFault>
     requires right { knows heap.now.cells b.now ≡ true }
     ensures { result ≡ same_value heap.now.cells a.now b.now }
 {
-    verdict(same_at(heap, LEVELS, a, b, ITEMS))
+    verdict(same_at(heap, MOST_LEVELS, a, b, ITEMS))
 }
 
 fn or_refused(answer: Option<bool>) -> Result<bool, RunFault>

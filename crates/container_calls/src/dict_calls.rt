@@ -3,7 +3,6 @@ ghost use Rattle.std.specs.Prelude.{◌≡◌, [], ◌∷◌, true, false, IfOk}
 ghost use Rattle.variant_values.specs.Heaps.{cell_at, is_dict, knows, KnowsAll};
 ghost use Rattle.variant_values.specs.StringMethods.{with_given};
 ghost use Rattle.variant_values.specs.Changes.{HasGiven, Keeps};
-ghost use Rattle.variant_values.specs.DictMethods.{merge_of};
 ghost use Rattle.variant_values.specs.ContainerCalls.{dict_call_of, dict_in, truth_in};
 ghost use Rattle.variant_values.specs.Copies.{dict_duplicate_of};
 
@@ -53,12 +52,7 @@ fn duplicate(alloc: Global, heap: &mut Heap, of: Serial, deep: &Value) -> Result
     }
 }
 
-fn merge_missing(
-    alloc: Global,
-    heap: &mut Heap,
-    of: Serial,
-    other: &Value,
-) -> Result<Value, Trouble>
+fn merge_missing(heap: &mut Heap, of: Serial, other: &Value) -> Result<Value, Trouble>
     requires dict { is_dict (cell_at heap.old.cells of.0) ≡ true }
     requires other { knows heap.old.cells other.now ≡ true }
     ensures given { HasGiven result heap.old heap.new (dict_call_of heap.old DictMethod.Merge of (other.now ∷ [])) }
@@ -66,7 +60,7 @@ fn merge_missing(
     ensures known { IfOk result (λ v. knows heap.new.cells v ≡ true) }
 {
     match dict_in(heap, other) {
-        Some(other) => merge(alloc, heap, of, other, false),
+        Some(other) => merge(heap, of, other, false),
         None => Err(BAD_ARGS),
     }
 }
@@ -89,7 +83,7 @@ fn with_one(
         DictMethod::Get => dicts::get(heap, of, v, &Value::Null),
         DictMethod::Erase => dicts::erase(heap, of, v),
         DictMethod::Duplicate => duplicate(alloc, heap, of, v),
-        DictMethod::Merge => merge_missing(alloc, heap, of, v),
+        DictMethod::Merge => merge_missing(heap, of, v),
         DictMethod::Size
         | DictMethod::IsEmpty
         | DictMethod::Keys
@@ -99,7 +93,6 @@ fn with_one(
 }
 
 fn merge_with(
-    alloc: Global,
     heap: &mut Heap,
     of: Serial,
     other: &Value,
@@ -112,13 +105,12 @@ fn merge_with(
     ensures known { IfOk result (λ v. knows heap.new.cells v ≡ true) }
 {
     match (dict_in(heap, other), truth_in(overwrite)) {
-        (Some(other), Some(overwrite)) => merge(alloc, heap, of, other, overwrite),
+        (Some(other), Some(overwrite)) => merge(heap, of, other, overwrite),
         _ => Err(BAD_ARGS),
     }
 }
 
 fn with_two(
-    alloc: Global,
     heap: &mut Heap,
     method: DictMethod,
     of: Serial,
@@ -134,7 +126,7 @@ fn with_two(
 {
     match method {
         DictMethod::Get => dicts::get(heap, of, v, w),
-        DictMethod::Merge => merge_with(alloc, heap, of, v, w),
+        DictMethod::Merge => merge_with(heap, of, v, w),
         DictMethod::Size
         | DictMethod::IsEmpty
         | DictMethod::Has
@@ -166,7 +158,7 @@ pub fn dict_call(
     match args {
         [] => with_none(alloc, heap, method, of),
         [v] => with_one(alloc, heap, method, of, v),
-        [v, w] => with_two(alloc, heap, method, of, v, w),
+        [v, w] => with_two(heap, method, of, v, w),
         [_, _, _, ..] => Err(BAD_ARGS),
     }
 }

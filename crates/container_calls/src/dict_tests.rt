@@ -401,6 +401,7 @@ fn reading_an_item(rt: HostRuntime) -> Result<(), Fail> {
         (of, Sample::Number(-4), "BadIndex"),
         (of, Sample::Null, "BadOperands"),
         (of, Sample::Text("0"), "BadOperands"),
+        (of, Sample::Bool(true), "BadOperands"),
         (Sample::Null, Sample::Number(0), "BadOperands"),
         (Sample::Number(5), Sample::Number(0), "BadOperands"),
     ];
@@ -417,6 +418,7 @@ fn reading_a_character(rt: HostRuntime) -> Result<(), Fail> {
         (of, Sample::Number(3), "BadIndex"),
         (of, Sample::Number(-4), "BadIndex"),
         (of, Sample::Text("a"), "BadOperands"),
+        (of, Sample::Bool(true), "BadOperands"),
         (Sample::Text(""), Sample::Number(0), "BadIndex"),
     ];
     check_reads(&rt, &cases)
@@ -463,6 +465,7 @@ fn values_that_take_none(rt: HostRuntime) -> Result<(), Fail> {
         (Sample::Number(5), Sample::Number(0), "BadOperands"),
         (Sample::Numbers(&[5]), Sample::Null, "BadOperands"),
         (Sample::Numbers(&[5]), Sample::Text("0"), "BadOperands"),
+        (Sample::Numbers(&[5]), Sample::Bool(false), "BadOperands"),
         (Sample::Numbers(&[5]), Sample::Number(0), "null"),
         (Sample::Entries(&[]), Sample::Null, "BadKey"),
     ];

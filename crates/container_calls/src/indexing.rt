@@ -12,6 +12,7 @@ ghost use Rattle.variant_values.specs.declared.values.Value.{Value as AValue};
 use crate::elements::is_taken;
 use call_support::changes::{set_entry, splice};
 use call_support::views::{element, entries, items, value_at};
+use call_support::walks;
 use ref_objects::heap::Heap;
 use std::alloc::{AllocError, Global};
 use variant_values::entries::Entries;
@@ -20,10 +21,10 @@ use variant_values::texts::Str;
 use variant_values::values::{Key, Serial, Value};
 
 /// The most items that a container may have.
-pub const MOST_ITEMS: usize = 1_048_576;
+pub(crate) const MOST_ITEMS: usize = walks::MOST_ITEMS as usize;
 
 /// The place of an index among `len`, where a negative one counts from the end.
-pub fn spot(index: i64, len: usize) -> Option<usize>
+pub(crate) fn spot(index: i64, len: usize) -> Option<usize>
     ensures { result ≡ spot index len }
 {
     let size = index.unsigned_abs() as usize;
@@ -136,7 +137,7 @@ fn set_item(
 }
 
 /// Gives a dictionary an entry, where it has not too many then.
-pub fn put_entry(heap: &mut Heap, of: Serial, key: Key, to: Value) -> Result<(), Trouble>
+fn put_entry(heap: &mut Heap, of: Serial, key: Key, to: Value) -> Result<(), Trouble>
     requires dict { is_dict (cell_at heap.old.cells of.0) ≡ true }
     requires key { knows_key heap.old.cells key ≡ true }
     requires to { knows heap.old.cells to ≡ true }
@@ -191,7 +192,7 @@ pub fn set_index(
 }
 
 /// A list of one value.
-pub fn one(alloc: Global, v: Value) -> Result<Vec<Value>, AllocError>
+pub(crate) fn one(alloc: Global, v: Value) -> Result<Vec<Value>, AllocError>
     ensures { IfOk result (λ list. list.items ≡ v ∷ []) }
 {
     let mut list = Vec::new(alloc);

@@ -1,23 +1,31 @@
 //! Calls of arrays and dictionaries, and operators on all values.
 #![tactic(auto)]
 
-pub mod array_calls;
+mod array_calls;
 mod arrays;
 #[cfg(test)]
 mod call_tests;
 mod comparisons;
-pub mod dict_calls;
+mod dict_calls;
 #[cfg(test)]
 mod dict_tests;
 mod dicts;
 mod elements;
-pub mod indexing;
-pub mod operations;
+mod indexing;
+mod laws;
+mod operations;
 #[cfg(test)]
 mod samples;
-pub mod sorts;
+mod sorts;
 #[cfg(test)]
 mod tests;
-pub mod truths;
+mod truths;
 #[cfg(test)]
 mod walk_tests;
+
+pub use array_calls::array_call;
+pub use dict_calls::dict_call;
+pub use indexing::{get_index, set_index};
+pub use laws::a_sort_is_sorted;
+pub use operations::operate;
+pub use truths::truth;

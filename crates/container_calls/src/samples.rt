@@ -1,7 +1,9 @@
 //! Values that the tests make, and answers in words.
-ghost use Rattle.std.specs.Prelude.{◌≡◌, List, Option, true, IfOk, OnOk};
+ghost use Rattle.std.specs.Prelude.{◌≡◌, ◌<◌, ◌∷◌, [], List, Option, true, false, length, IfOk, OnOk};
 ghost use Rattle.variant_values.specs.declared.cells.Cell.{Cell as ACell};
-ghost use Rattle.variant_values.specs.Heaps.{knows};
+ghost use Rattle.variant_values.specs.declared.classes.ClassTag.TheVariants.{Script, Object};
+ghost use Rattle.variant_values.specs.Heaps.{cell_at, knows};
+ghost use Rattle.variant_values.specs.Places.{is_counted};
 ghost use Rattle.variant_values.specs.Changes.{Keeps};
 ghost use Rattle.variant_values.specs.Keys.{with_entry};
 ghost use Rattle.variant_values.specs.Heaps.{KnowsEntries};
@@ -13,7 +15,8 @@ use call_support::views::items;
 use ref_objects::heap::Heap;
 use std::alloc::Global;
 use std::test::Fail;
-use variant_values::classes::ElementTag;
+use variant_values::cells::{Cell, Connections, ObjectCell, Values};
+use variant_values::classes::{ClassId, ClassTag, ElementTag, Lineage};
 use variant_values::entries::Entries;
 use variant_values::faults::{RunFault, Trouble};
 use variant_values::texts::Str;
@@ -46,6 +49,20 @@ pub enum Sample {
     Cycle,
     /// An array of so many texts of 1,048,576 bytes.
     LongTexts(usize),
+    /// An empty array of an element type.
+    Typed(ElementTag),
+    /// An object of a class, which extends another.
+    Object(u32, u32),
+    Callable,
+    Signal,
+    Class(u32),
+    Scene,
+    Weak,
+}
+
+/// A class of a script.
+pub fn class(index: u32) -> ClassTag {
+    ClassTag::Script(ClassId { file: 0, index })
 }
 
 fn fault_name(fault: RunFault) -> &'static str {
@@ -83,6 +100,7 @@ fn push_value(text: &mut String, v: &Value) -> Result<(), Fail> {
         Value::Str(s) => push_text(text, s)?,
         Value::Array(_) => text.push_str("array")?,
         Value::Dict(_) => text.push_str("dictionary")?,
+        Value::Object(_) => text.push_str("object")?,
         _ => text.push_str("another kind")?,
     }
     Ok(())
@@ -346,6 +364,7 @@ fn made_array(alloc: Global, heap: &mut Heap, sample: Sample) -> Result<Serial, 
         Sample::LongestInside => add_longest_inside(alloc, heap),
         Sample::Cycle => add_cycle(alloc, heap),
         Sample::LongTexts(count) => add_long_texts(alloc, heap, count),
+        Sample::Typed(tag) => add_empty(alloc, heap, Some(tag)),
         _ => add_empty(alloc, heap, None),
     }
 }
@@ -362,6 +381,83 @@ fn made_dict(alloc: Global, heap: &mut Heap, sample: Sample) -> Result<Serial, F
     }
 }
 
+/// Puts an object of two classes of scripts into a heap that has a cell.
+fn new_object(alloc: Global, heap: &mut Heap, class: u32, base: u32) -> Result<Serial, Fail>
+    requires some { 0 < length heap.old.cells }
+    ensures known { IfOk result (λ s. knows heap.new.cells (Value.Object s) ≡ true) }
+    ensures uncounted { IfOk result (λ s. is_counted (cell_at heap.new.cells s.0) ≡ false) }
+    ensures keeps { Keeps heap.old.cells heap.new.cells }
+{
+    let cell = Cell::Object(ObjectCell {
+        lineage: lineage(alloc, class, base)?,
+        fields: Values::new(alloc),
+        connections: Connections::new(alloc),
+        node: None,
+    });
+    Ok(heap.new_cell(cell)?)
+}
+
+fn lineage(alloc: Global, class: u32, base: u32) -> Result<Lineage, Fail>
+    ensures { IfOk result (λ it. it ≡ Script (record { file = 0; index = class }) ∷ Script (record { file = 0; index = base }) ∷ Object ∷ []) }
+{
+    let mut tags = Vec::new(alloc);
+    tags.push(ClassTag::Script(ClassId {
+        file: 0,
+        index: class,
+    }))?;
+    tags.push(ClassTag::Script(ClassId {
+        file: 0,
+        index: base,
+    }))?;
+    tags.push(ClassTag::Object)?;
+    Ok(Lineage::new(alloc, tags)?)
+}
+
+/// An object without fields.
+pub fn add_object(alloc: Global, heap: &mut Heap, class: u32, base: u32) -> Result<Serial, Fail>
+    ensures known { IfOk result (λ s. knows heap.new.cells (Value.Object s) ≡ true) }
+    ensures uncounted { IfOk result (λ s. is_counted (cell_at heap.new.cells s.0) ≡ false) }
+    ensures keeps { Keeps heap.old.cells heap.new.cells }
+{
+    add_empty(alloc, heap, None)?;
+    new_object(alloc, heap, class, base)
+}
+
+/// An object that has gone.
+pub fn add_gone(alloc: Global, heap: &mut Heap, class: u32, base: u32) -> Result<Serial, Fail>
+    ensures { IfOk result (λ s. knows heap.new.cells (Value.Object s) ≡ true) }
+{
+    let s = add_object(alloc, heap, class, base)?;
+    heap.free_node(s)?;
+    Ok(s)
+}
+
+/// A value that names an object.
+fn made_around(alloc: Global, sample: Sample, s: Serial) -> Result<Value, Fail>
+    ensures { IfOk result (λ v. (cells : List (Option ACell)) → knows cells (Value.Object s) ≡ true → knows cells v ≡ true) }
+{
+    match sample {
+        Sample::Callable => Ok(Value::Callable(s, Str::new(alloc, "glow")?)),
+        Sample::Signal => Ok(Value::Signal(s, Str::new(alloc, "glow")?)),
+        Sample::Weak => Ok(Value::Weak(s)),
+        Sample::Class(index) => Ok(Value::Class(class(index))),
+        Sample::Scene => Ok(Value::Scene(0, Str::new(alloc, "res://a.tscn")?)),
+        _ => Ok(Value::Object(s)),
+    }
+}
+
+fn made_object(alloc: Global, heap: &mut Heap, sample: Sample) -> Result<Value, Fail>
+    ensures known { IfOk result (λ v. knows heap.new.cells v ≡ true) }
+    ensures keeps { Keeps heap.old.cells heap.new.cells }
+{
+    let (class, base) = match sample {
+        Sample::Object(class, base) => (class, base),
+        _ => (0, 1),
+    };
+    let s = add_object(alloc, heap, class, base)?;
+    made_around(alloc, sample, s)
+}
+
 /// Makes it.
 pub fn made(alloc: Global, heap: &mut Heap, sample: Sample) -> Result<Value, Fail>
     ensures known { IfOk result (λ v. knows heap.new.cells v ≡ true) }
@@ -376,6 +472,10 @@ pub fn made(alloc: Global, heap: &mut Heap, sample: Sample) -> Result<Value, Fai
         Sample::Entries(_) | Sample::NestedDicts(_) | Sample::LongestInDict => {
             Ok(Value::Dict(made_dict(alloc, heap, sample)?))
         }
+        Sample::Object(_, _) | Sample::Callable | Sample::Signal => made_object(
+            alloc, heap, sample,
+        ),
+        Sample::Class(_) | Sample::Scene | Sample::Weak => made_object(alloc, heap, sample),
         _ => Ok(Value::Array(made_array(alloc, heap, sample)?)),
     }
 }

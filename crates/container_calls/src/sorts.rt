@@ -1,7 +1,6 @@
 //! Arrays put in order.
 ghost use Rattle.std.specs.Prelude.{◌≡◌, true, IfOk};
 ghost use Rattle.std.specs.List.{list_all};
-ghost use Rattle.std.specs.List.Sorted.{IsPermutation, IsSortedBy};
 ghost use Rattle.variant_values.specs.Heaps.{cell_at, is_array, knows};
 ghost use Rattle.variant_values.specs.Operators.{is_text};
 ghost use Rattle.variant_values.specs.Changes.{Keeps, HasGiven};
@@ -117,7 +116,7 @@ fn sort_texts(alloc: Global, heap: &mut Heap, of: Serial) -> Result<Value, Troub
 }
 
 /// Puts the items in order, where all are whole numbers or all are texts.
-pub fn sort(alloc: Global, heap: &mut Heap, of: Serial) -> Result<Value, Trouble>
+pub(crate) fn sort(alloc: Global, heap: &mut Heap, of: Serial) -> Result<Value, Trouble>
     requires { is_array (cell_at heap.old.cells of.0) ≡ true }
     ensures given { HasGiven result heap.old heap.new (sort_of heap.old of.0) }
     ensures keeps { Keeps heap.old.cells heap.new.cells }

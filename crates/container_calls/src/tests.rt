@@ -5,7 +5,9 @@ ghost use Rattle.variant_values.specs.Changes.{Keeps};
 
 use crate::arrays;
 use crate::indexing::set_index;
-use crate::samples::{Sample, add_empty, add_longest, add_numbers, described, listed, made, shown};
+use crate::samples::{
+    Sample, add_empty, add_gone, add_longest, add_numbers, class, described, listed, made, shown,
+};
 use crate::sorts::sort;
 use call_support::views::items;
 use ref_objects::heap::Heap;
@@ -400,6 +402,85 @@ fn element_types(rt: HostRuntime) -> Result<(), Fail> {
         (Call::Write(0, Sample::Text("a")), "ElementType", "1 "),
         (Call::Write(1, Sample::Text("a")), "BadIndex", "1 "),
         (Call::Has(Sample::Text("a")), "false", "1 "),
+    ];
+    check_all(&rt, &mut heap, s, &cases)
+}
+
+#[test]
+fn element_types_stay(rt: HostRuntime) -> Result<(), Fail> {
+    let mut heap = Heap::new(rt.alloc())?;
+    let s = add_empty(rt.alloc(), &mut heap, Some(ElementTag::Int))?;
+    let cases = [
+        (Call::Append(Sample::Number(2)), "null", "2 "),
+        (Call::Append(Sample::Number(3)), "null", "2 3 "),
+        (Call::Append(Sample::Number(1)), "null", "2 3 1 "),
+        (Call::Sort, "null", "1 2 3 "),
+        (Call::Append(Sample::Text("a")), "ElementType", "1 2 3 "),
+        (Call::Reverse, "null", "3 2 1 "),
+        (Call::Append(Sample::Text("a")), "ElementType", "3 2 1 "),
+        (Call::Erase(Sample::Number(2)), "null", "3 1 "),
+        (Call::Append(Sample::Text("a")), "ElementType", "3 1 "),
+        (Call::Clear, "null", ""),
+        (Call::Append(Sample::Text("a")), "ElementType", ""),
+    ];
+    check_all(&rt, &mut heap, s, &cases)
+}
+
+#[test]
+fn objects_of_a_class(rt: HostRuntime) -> Result<(), Fail> {
+    let mut heap = Heap::new(rt.alloc())?;
+    let of = ElementTag::Class(class(1));
+    let s = add_empty(rt.alloc(), &mut heap, Some(of))?;
+    let own = Sample::Object(1, 0);
+    let heir = Sample::Object(2, 1);
+    let other = Sample::Object(3, 0);
+    let two = "object object ";
+    let cases = [
+        (Call::Append(own), "null", "object "),
+        (Call::PushFront(heir), "null", two),
+        (Call::Append(other), "ElementType", two),
+        (Call::Append(Sample::Class(1)), "ElementType", two),
+        (Call::Append(Sample::Weak), "ElementType", two),
+        (Call::Write(0, other), "ElementType", two),
+        (Call::Write(0, Sample::Null), "null", "null object "),
+        (Call::Fill(other), "ElementType", "null object "),
+        (Call::Fill(heir), "null", two),
+    ];
+    check_all(&rt, &mut heap, s, &cases)
+}
+
+/// Appends an object that has gone to an array of the objects of its class.
+#[test]
+fn an_object_that_has_gone_is_of_no_class(rt: HostRuntime) -> Result<(), Fail> {
+    let mut heap = Heap::new(rt.alloc())?;
+    let gone = add_gone(rt.alloc(), &mut heap, 1, 0)?;
+    let answer = append_to_typed(rt.alloc(), &mut heap, &Value::Object(gone))?;
+    assert_eq!(rt; answer.as_str(), "ElementType");
+    Ok(())
+}
+
+/// Appends a value to a new array of the objects of a class.
+fn append_to_typed(alloc: Global, heap: &mut Heap, v: &Value) -> Result<String, Fail>
+    requires { knows heap.old.cells v.now ≡ true }
+{
+    let s = add_empty(alloc, heap, Some(ElementTag::Class(class(1))))?;
+    shown(alloc, &arrays::append(alloc, heap, s, v))
+}
+
+#[test]
+fn arrays_of_arrays(rt: HostRuntime) -> Result<(), Fail> {
+    let mut heap = Heap::new(rt.alloc())?;
+    let s = add_empty(rt.alloc(), &mut heap, Some(ElementTag::Array))?;
+    let ints = Sample::Typed(ElementTag::Int);
+    let cases = [
+        (Call::Append(ints), "null", "array "),
+        (Call::Append(Sample::Numbers(&[1])), "null", "array array "),
+        (
+            Call::Append(Sample::Entries(&[])),
+            "ElementType",
+            "array array ",
+        ),
+        (Call::Append(Sample::Null), "ElementType", "array array "),
     ];
     check_all(&rt, &mut heap, s, &cases)
 }

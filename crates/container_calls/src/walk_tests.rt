@@ -6,13 +6,16 @@ ghost use Rattle.variant_values.specs.Changes.{Keeps};
 ghost use Rattle.variant_values.specs.Operations.{is_value_op};
 
 use crate::operations::operate;
-use crate::samples::{Sample, described, made};
+use crate::samples::{Sample, add_gone, class, described, made};
 use crate::truths::truth;
+use call_support::views::element;
 use ref_objects::heap::Heap;
 use std::alloc::Global;
 use std::process::Abort;
 use std::test::Fail;
+use variant_values::classes::ElementTag;
 use variant_values::operators::BinaryOp;
+use variant_values::texts::Str;
 use variant_values::values::Value;
 
 fn is_operator_of_values(op: BinaryOp) -> bool
@@ -354,6 +357,60 @@ fn truths(rt: HostRuntime) -> Result<(), Fail> {
         (Sample::Numbers(&[1, 2]), true),
         (Sample::Entries(&[]), false),
         (Sample::Entries(&[(1, 10)]), true),
+        (Sample::Typed(ElementTag::Int), false),
+        (Sample::Object(0, 1), true),
+        (Sample::Callable, true),
+        (Sample::Signal, true),
+        (Sample::Class(0), true),
+        (Sample::Scene, true),
+        (Sample::Weak, true),
     ];
     check_truths(&rt, &cases)
+}
+
+#[test]
+fn an_object_that_has_gone_is_false(rt: HostRuntime) -> Result<(), Fail> {
+    let mut heap = Heap::new(rt.alloc())?;
+    let gone = add_gone(rt.alloc(), &mut heap, 0, 1)?;
+    assert!(rt; !truth(&heap, &Value::Object(gone)));
+    assert!(rt; truth(&heap, &Value::Weak(gone)));
+    let method = Str::new(rt.alloc(), "glow")?;
+    assert!(rt; truth(&heap, &Value::Callable(gone, method)));
+    Ok(())
+}
+
+/// The element type of a sum of two new arrays.
+fn check_sum(
+    rt: &(impl Abort + AllocGlobal),
+    case: &(Sample, Sample, Option<ElementTag>),
+) -> Result<(), Fail> {
+    let mut heap = Heap::new(rt.alloc())?;
+    let a = made(rt.alloc(), &mut heap, case.0)?;
+    let b = made(rt.alloc(), &mut heap, case.1)?;
+    let Ok(Value::Array(sum)) = operate(rt.alloc(), &mut heap, BinaryOp::Add, &a, &b) else {
+        return Err(Fail::from("no array"));
+    };
+    assert!(rt; element(&heap, sum) == case.2);
+    Ok(())
+}
+
+#[test]
+fn element_types_of_sums(rt: HostRuntime) -> Result<(), Fail> {
+    let ints = ElementTag::Int;
+    let lamps = ElementTag::Class(class(0));
+    let chairs = ElementTag::Class(class(1));
+    let any = Sample::Numbers(&[1, 2]);
+    let cases = [
+        (Sample::Typed(ints), Sample::Typed(ints), Some(ints)),
+        (Sample::Typed(lamps), Sample::Typed(lamps), Some(lamps)),
+        (Sample::Typed(lamps), Sample::Typed(chairs), None),
+        (Sample::Typed(ints), Sample::Typed(lamps), None),
+        (Sample::Typed(ints), any, None),
+        (any, Sample::Typed(ints), None),
+        (any, any, None),
+    ];
+    for case in &cases {
+        check_sum(&rt, case)?;
+    }
+    Ok(())
 }

@@ -1,26 +1,22 @@
 -- A copy, item by item and entry by entry.
-use Rattle.std.proofs.Common.{◌≡◌, ℕ, ◌+◌, ◌≤◌, ◌∙◌, ap, sym, subst, refl, Bool, true, false, cond, List, [], ◌∷◌, ◌++◌, length, drop, get_or, Option, Some, None, slice_get, arith}
+use Rattle.std.proofs.Common.{◌≡◌, ℕ, ◌+◌, ◌<◌, ◌≤◌, ◌∙◌, ap, sym, subst, refl, Bool, true, false, cond, List, [], ◌∷◌, ◌++◌, length, drop, get_or, Option, Some, None, slice_get, arith}
 use Rattle.std.specs.Map.{lookup}
 use Rattle.std.specs.Prelude.{IfOk, Result, Ok, Err}
-use Rattle.std.proofs.lemmas.List.{append_assoc, append-nil, drop_all}
+use Rattle.std.proofs.lemmas.List.{append_assoc}
 use Rattle.std.proofs.lemmas.List.Elements.{All-push}
-use Rattle.std.proofs.lemmas.Option.{get_or_from_slice_get, slice_get_within}
 use Rattle.call_support.proofs.Counts.{drop-next}
 use Rattle.call_support.proofs.Once.{apart_too, with_new}
 use Rattle.variant_values.specs.declared.cells.Cell.{Cell}
 use Rattle.variant_values.specs.declared.values.Key.{Key}
 use Rattle.variant_values.specs.declared.values.Key.TheVariants.{Bool as KeyTruth, Int as KeyInt, Str as KeyStr, Object as KeyObject}
-use Rattle.variant_values.specs.declared.cells.Cell.TheVariants.{Dict as DictCell}
-use Rattle.variant_values.specs.declared.values.Serial.{Serial}
 use Rattle.variant_values.specs.declared.values.Value.TheVariants.{Object}
 use Rattle.variant_values.specs.declared.values.Value.{Value}
 use Rattle.variant_values.specs.Copies.{copied, copied_items, copied_entries}
 use Rattle.variant_values.specs.Changes.{Keeps}
-use Rattle.variant_values.specs.Heaps.{Heap, cell_at, entries_of, knows, knows_key, KnowsAll, KnowsEntries}
+use Rattle.variant_values.specs.Heaps.{Heap, cell_at, entries_of, items_of, knows, knows_key, KnowsAll, KnowsEntries}
 use Rattle.variant_values.specs.Keys.{same_key, with_entry, HasKeysOnce}
 use Rattle.variant_values.specs.Places.{weight}
-use Rattle.deep_copies.specs.CopyWeights.{dict_copy}
-use Rattle.deep_copies.proofs.Growth.{Grows, grown_new, grown_weight, items_grown, entries_grown}
+use Rattle.deep_copies.proofs.Growth.{Grows, grown_cell, grown_weight, items_grown, entries_grown, copied_grown}
 
 -- what is copied so far, with the rest copied, is the whole
 abbrev pub Copying : (Heap → Value → Value × Heap) → Heap → List Value → List Value → List Value × Heap → Type 0
@@ -61,11 +57,6 @@ module _ (copy : Heap → Value → Value × Heap) (grows : Grows copy) (h : Hea
 
   pub entry_next : (new : Heap) (done es : List (Key × Value)) (i : ℕ) (k : Key) (v w : Value) (all : List (Key × Value) × Heap) → slice_get es i ≡ Some (k, v) → (w, new) ≡ copy h v → CopyingEntries copy h done (drop i es) all → CopyingEntries copy new (done ++ (k, w) ∷ []) (drop (i + 1) es) all
   entry_next new done es i k v w all at one whole = entry_next_at new done (drop (i + 1) es) (k, v) w all one (subst (λ (rest : List (Key × Value)). CopyingEntries copy h done rest all) (drop-next es i (k, v) at) whole)
-
-pub items_all : (copy : Heap → Value → Value × Heap) (h : Heap) (done vs : List Value) (i : ℕ) (all : List Value × Heap) → length vs ≤ i → Copying copy h done (drop i vs) all → (done, h) ≡ all
-items_all copy h done vs i all l whole =
-    ap (λ (x : List Value). (x, h)) (sym (append-nil done))
-    ∙ subst (λ (rest : List Value). Copying copy h done rest all) (drop_all i vs l) whole
 
 -- ---- each key stands once
 
@@ -116,15 +107,7 @@ module _ (done es : List (Key × Value)) (i : ℕ) (k : Key) (v w : Value) (at :
 
 -- ---- what a call needs to know
 
-pub inside_fits : (n : ℕ) (h : Heap) (of : Serial) → weight (dict_copy n h of).1.cells ≤ 67108864 → weight (copied_entries (copied n) h (entries_of (cell_at h.cells of.0))).1.cells ≤ 67108864
-inside_fits n h of fits =
-    let inside = copied_entries (copied n) h (entries_of (cell_at h.cells of.0)) in
-    omega (arith, grown_weight inside.1.cells (dict_copy n h of).1.cells (grown_new inside.1.cells (DictCell inside.0)), fits)
-
-pub known_at : (cells : List (Option Cell)) (es : List (Key × Value)) (i : ℕ) (k : Key) (v : Value) → slice_get es i ≡ Some (k, v) → KnowsEntries cells es → (knows_key cells k ≡ true) × (knows cells v ≡ true)
-known_at cells es i k v at known = subst (λ (e : Key × Value). (knows_key cells e.0 ≡ true) × (knows cells e.1 ≡ true)) (get_or_from_slice_get es i (k, v) (k, v) at) (known i (k, v) (slice_get_within es i (k, v) at))
-
-key_keeps : (cells new : List (Option Cell)) (k : Key) → Keeps cells new → knows_key cells k ≡ true → knows_key new k ≡ true
+pub key_keeps : (cells new : List (Option Cell)) (k : Key) → Keeps cells new → knows_key cells k ≡ true → knows_key new k ≡ true
 key_keeps cells new (KeyTruth b) keeps known = known
 key_keeps cells new (KeyInt n) keeps known = known
 key_keeps cells new (KeyStr s) keeps known = known
@@ -136,8 +119,16 @@ items_more cells new vs w keeps known one = All-push (λ (v : Value). knows new 
 pub entries_more : (cells new : List (Option Cell)) (es : List (Key × Value)) (k : Key) (w : Value) → Keeps cells new → KnowsEntries cells es → knows_key new k ≡ true → knows new w ≡ true → KnowsEntries new (es ++ (k, w) ∷ [])
 entries_more cells new es k w keeps known key one = All-push (λ (e : Key × Value). (knows_key new e.0 ≡ true) × (knows new e.1 ≡ true)) es (k, w) (λ i d l. (key_keeps cells new (get_or es i d).0 keeps (known i d l).0, keeps (get_or es i d).1 (known i d l).1)) (key, one)
 
-pub key_known : (cells new : List (Option Cell)) (es : List (Key × Value)) (i : ℕ) (k : Key) (v : Value) → slice_get es i ≡ Some (k, v) → KnowsEntries cells es → Keeps cells new → knows_key new k ≡ true
-key_known cells new es i k v at known keeps = key_keeps cells new k keeps (known_at cells es i k v at known).0
+-- a cell that was there stays as it is
+pub cell_stays : (n : ℕ) (h new : Heap) (v w : Value) (x : ℕ) → (w, new) ≡ copied n h v → x < length h.cells → cell_at new.cells x ≡ cell_at h.cells x
+cell_stays n h new v w x one l = ap (λ (c : Value × Heap). cell_at c.1.cells x) one ∙ grown_cell h.cells (copied n h v).1.cells x (copied_grown n h v) l
+
+-- what is read where the cell is as it was
+pub item_was : (now was : Option Cell) (i : ℕ) (v : Value) → now ≡ was → slice_get (items_of now) i ≡ Some v → slice_get (items_of was) i ≡ Some v
+item_was now was i v is at = ap (λ (c : Option Cell). slice_get (items_of c) i) (sym is) ∙ at
+
+pub entry_was : (now was : Option Cell) (i : ℕ) (k : Key) (v : Value) → now ≡ was → slice_get (entries_of now) i ≡ Some (k, v) → slice_get (entries_of was) i ≡ Some (k, v)
+entry_was now was i k v is at = ap (λ (c : Option Cell). slice_get (entries_of c) i) (sym is) ∙ at
 
 -- ---- what is passed on
 

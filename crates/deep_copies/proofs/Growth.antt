@@ -40,6 +40,9 @@ grown_new a c = record { more = Some c ∷ []; cells = refl; heavy = omega (arit
 pub grown_weight : (a b : List (Option Cell)) → IsGrown a b → weight a ≤ weight b
 grown_weight a b g = omega (arith, ap weight g.cells, sum_by-append slot_weight a g.more)
 
+pub grown_length : (a b : List (Option Cell)) → IsGrown a b → length a ≤ length b
+grown_length a b g = omega (arith, ap length g.cells, length-append a g.more)
+
 pub grown_cell : (a b : List (Option Cell)) (x : ℕ) → IsGrown a b → x < length a → cell_at b x ≡ cell_at a x
 grown_cell a b x g l = ap (λ (c : List (Option Cell)). cell_at c x) g.cells ∙ get_or_append_left a g.more None x l
 

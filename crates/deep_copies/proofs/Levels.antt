@@ -1,5 +1,5 @@
 -- Arrays, dictionaries, and what a copy leaves as it is.
-use Rattle.std.proofs.Common.{◌≡◌, ◌≢◌, ℕ, zero, suc, ◌+◌, ◌-◌, ◌∙◌, ap, refl, List, Option, arith}
+use Rattle.std.proofs.Common.{◌≡◌, ◌≢◌, ℕ, zero, suc, ◌+◌, ◌-◌, ◌∙◌, ap, refl, false, List, Option, arith}
 use Rattle.variant_values.specs.declared.cells.Cell.{Cell}
 use Rattle.variant_values.specs.declared.values.Serial.{Serial}
 use Rattle.variant_values.specs.declared.values.Value.{Value}
@@ -8,25 +8,27 @@ use Rattle.variant_values.specs.Copies.{copied, copied_with}
 use Rattle.variant_values.specs.Heaps.{Heap, cell_at, items_of, entries_of}
 use Rattle.variant_values.specs.Places.{entry_weight, item_weight}
 use Rattle.deep_copies.specs.CopyWeights.{array_copy, dict_copy, copy_weight, total, weight_with}
+use Rattle.deep_copies.specs.DeepCopies.{is_container}
 
 -- one that is no container
 pub record IsScalar (v : Value) : Type 0 where
   pub copy : (arrays dicts : Serial → Value × Heap) (h : Heap) → copied_with arrays dicts h v ≡ (v, h)
   pub weight : (arrays dicts : Serial → ℕ) → weight_with arrays dicts v ≡ 0
+  pub plain : is_container v ≡ false
 
 pub by_kind : (P : Value → Type 0) → ((s : Serial) → P (Array s)) → ((s : Serial) → P (Dict s)) → ((v : Value) → IsScalar v → P v) → (v : Value) → P v
-by_kind P array dict other Null = other Null (record { copy = λ arrays dicts h. refl; weight = λ arrays dicts. refl })
-by_kind P array dict other (Truth b) = other (Truth b) (record { copy = λ arrays dicts h. refl; weight = λ arrays dicts. refl })
-by_kind P array dict other (Int n) = other (Int n) (record { copy = λ arrays dicts h. refl; weight = λ arrays dicts. refl })
-by_kind P array dict other (Str s) = other (Str s) (record { copy = λ arrays dicts h. refl; weight = λ arrays dicts. refl })
+by_kind P array dict other Null = other Null (record { copy = λ arrays dicts h. refl; weight = λ arrays dicts. refl; plain = refl })
+by_kind P array dict other (Truth b) = other (Truth b) (record { copy = λ arrays dicts h. refl; weight = λ arrays dicts. refl; plain = refl })
+by_kind P array dict other (Int n) = other (Int n) (record { copy = λ arrays dicts h. refl; weight = λ arrays dicts. refl; plain = refl })
+by_kind P array dict other (Str s) = other (Str s) (record { copy = λ arrays dicts h. refl; weight = λ arrays dicts. refl; plain = refl })
 by_kind P array dict other (Array s) = array s
 by_kind P array dict other (Dict s) = dict s
-by_kind P array dict other (Object s) = other (Object s) (record { copy = λ arrays dicts h. refl; weight = λ arrays dicts. refl })
-by_kind P array dict other (Callable s m) = other (Callable s m) (record { copy = λ arrays dicts h. refl; weight = λ arrays dicts. refl })
-by_kind P array dict other (Signal s m) = other (Signal s m) (record { copy = λ arrays dicts h. refl; weight = λ arrays dicts. refl })
-by_kind P array dict other (Class c) = other (Class c) (record { copy = λ arrays dicts h. refl; weight = λ arrays dicts. refl })
-by_kind P array dict other (Scene f p) = other (Scene f p) (record { copy = λ arrays dicts h. refl; weight = λ arrays dicts. refl })
-by_kind P array dict other (Weak s) = other (Weak s) (record { copy = λ arrays dicts h. refl; weight = λ arrays dicts. refl })
+by_kind P array dict other (Object s) = other (Object s) (record { copy = λ arrays dicts h. refl; weight = λ arrays dicts. refl; plain = refl })
+by_kind P array dict other (Callable s m) = other (Callable s m) (record { copy = λ arrays dicts h. refl; weight = λ arrays dicts. refl; plain = refl })
+by_kind P array dict other (Signal s m) = other (Signal s m) (record { copy = λ arrays dicts h. refl; weight = λ arrays dicts. refl; plain = refl })
+by_kind P array dict other (Class c) = other (Class c) (record { copy = λ arrays dicts h. refl; weight = λ arrays dicts. refl; plain = refl })
+by_kind P array dict other (Scene f p) = other (Scene f p) (record { copy = λ arrays dicts h. refl; weight = λ arrays dicts. refl; plain = refl })
+by_kind P array dict other (Weak s) = other (Weak s) (record { copy = λ arrays dicts h. refl; weight = λ arrays dicts. refl; plain = refl })
 
 scalar : (v : Value) → ((s : Serial) → v ≡ Array s → ⊥) → ((s : Serial) → v ≡ Dict s → ⊥) → IsScalar v
 scalar v a d = by_kind (λ w. v ≡ w → IsScalar w) (λ s e. absurd (a s e)) (λ s e. absurd (d s e)) (λ w one e. one) v refl

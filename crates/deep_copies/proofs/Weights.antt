@@ -34,13 +34,13 @@ Weighs base copy f = (h : Heap) → IsGrown base h.cells → (v : Value) → kno
 abbrev KnownEntry : List (Option Cell) → Key × Value → Type 0
 KnownEntry cells e = (knows_key cells e.0 ≡ true) × (knows cells e.1 ≡ true)
 
-items_known : (cells : List (Option Cell)) (c : Option Cell) → KnowsSlot cells c → KnowsAll cells (items_of c)
+pub items_known : (cells : List (Option Cell)) (c : Option Cell) → KnowsSlot cells c → KnowsAll cells (items_of c)
 items_known cells None k = λ i d l. absurd (omega (arith, l))
 items_known cells (Some (ArrayCell vs of)) k = k
 items_known cells (Some (DictCell es)) k = λ i d l. absurd (omega (arith, l))
 items_known cells (Some (ObjectCell o)) k = λ i d l. absurd (omega (arith, l))
 
-entries_known : (cells : List (Option Cell)) (c : Option Cell) → KnowsSlot cells c → KnowsEntries cells (entries_of c)
+pub entries_known : (cells : List (Option Cell)) (c : Option Cell) → KnowsSlot cells c → KnowsEntries cells (entries_of c)
 entries_known cells None k = λ i d l. absurd (omega (arith, l))
 entries_known cells (Some (ArrayCell vs of)) k = λ i d l. absurd (omega (arith, l))
 entries_known cells (Some (DictCell es)) k = k

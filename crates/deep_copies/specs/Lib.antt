@@ -1,1 +1,2 @@
 pub mod CopyWeights
+pub mod DeepCopies

@@ -1,15 +1,14 @@
 // Copies of containers, those inside first. The heap takes the whole.
-ghost use Rattle.std.specs.Prelude.{◌≡◌, ◌≤◌, true, IfOk, OnOk};
+ghost use Rattle.std.specs.Prelude.{◌≡◌, ◌<◌, ◌≤◌, true, length, slice_get, IfOk, OnOk, Some};
 ghost use Rattle.variant_values.specs.declared.cells.Cell.TheVariants.{Array as ArrayCell, Dict as DictCell};
-ghost use Rattle.variant_values.specs.Heaps.{cell_at, is_array, is_dict, knows, with_new, KnowsAll, KnowsEntries};
-ghost use Rattle.variant_values.specs.Keys.{HasKeysOnce, with_entry};
+ghost use Rattle.variant_values.specs.Heaps.{cell_at, entries_of, is_array, is_dict, items_of, knows, knows_key, with_new, KnowsAll, KnowsEntries};
+ghost use Rattle.variant_values.specs.Keys.{with_entry};
 ghost use Rattle.variant_values.specs.Places.{weight};
 ghost use Rattle.variant_values.specs.Changes.{Keeps};
 ghost use Rattle.variant_values.specs.Copies.{copied, copied_items, copied_entries, new_array_of, new_dict_of};
 ghost use Rattle.deep_copies.specs.CopyWeights.{array_copy, dict_copy};
 
 use call_support::changes::{new_array, new_dict};
-use call_support::copies::copied_entries;
 use call_support::views::{element, entries, items};
 use ref_objects::heap::Heap;
 use std::alloc::{AllocError, Global};
@@ -63,11 +62,33 @@ fn shared(v: &Value) -> Result<Value, AllocError>
     Ok(v.clone()?)
 }
 
-/// Puts an entry in.
-fn enter(entries: &mut Entries, key: &Key, value: Value) -> Result<(), AllocError>
-    ensures { OnOk result (entries.new ≡ with_entry entries.old key.now value) }
+/// An item of an array.
+fn item(heap: &Heap, of: Serial, index: usize) -> Result<Value, AllocError>
+    requires array { is_array (cell_at heap.now.cells of.0) ≡ true }
+    requires within { index < length (items_of (cell_at heap.now.cells of.0)) }
+    ensures value { IfOk result (λ v. slice_get (items_of (cell_at heap.now.cells of.0)) index ≡ Some v) }
+    ensures known { IfOk result (λ v. knows heap.now.cells v ≡ true) }
 {
-    entries.insert(key.clone()?, value)?;
+    Ok(items(heap, of)[index].clone()?)
+}
+
+/// An entry of a dictionary.
+fn entry(heap: &Heap, of: Serial, index: usize) -> Result<(Key, Value), AllocError>
+    requires dict { is_dict (cell_at heap.now.cells of.0) ≡ true }
+    requires within { index < length (entries_of (cell_at heap.now.cells of.0)) }
+    ensures value { IfOk result (λ e. slice_get (entries_of (cell_at heap.now.cells of.0)) index ≡ Some e) }
+    ensures key { IfOk result (λ e. knows_key heap.now.cells e.0 ≡ true) }
+    ensures known { IfOk result (λ e. knows heap.now.cells e.1 ≡ true) }
+{
+    let (key, value) = entries(heap, of).entry_at(index);
+    Ok((key.clone()?, value.clone()?))
+}
+
+/// Puts an entry in.
+fn enter(entries: &mut Entries, key: Key, value: Value) -> Result<(), AllocError>
+    ensures { OnOk result (entries.new ≡ with_entry entries.old key value) }
+{
+    entries.insert(key, value)?;
     Ok(())
 }
 
@@ -104,8 +125,7 @@ fn copy_array(alloc: Global, heap: &mut Heap, of: Serial, levels: u32) -> Result
     ensures known { IfOk result (λ w. knows heap.new.cells w ≡ true) }
 {
     let element = element(heap, of);
-    let from = items(heap, of).to_vec(alloc)?;
-    let copy = copy_items(alloc, heap, from.as_slice(), levels)?;
+    let copy = copy_items(alloc, heap, of, levels)?;
     place_array(heap, copy, element)
 }
 
@@ -117,8 +137,7 @@ fn copy_dict(alloc: Global, heap: &mut Heap, of: Serial, levels: u32) -> Result<
     ensures keeps { Keeps heap.old.cells heap.new.cells }
     ensures known { IfOk result (λ w. knows heap.new.cells w ≡ true) }
 {
-    let from = copied_entries(alloc, entries(heap, of))?;
-    let copy = copy_entries(alloc, heap, &from, levels)?;
+    let copy = copy_entries(alloc, heap, of, levels)?;
     place_dict(heap, copy)
 }
 
@@ -126,18 +145,19 @@ fn copy_dict(alloc: Global, heap: &mut Heap, of: Serial, levels: u32) -> Result<
 fn copy_items(
     alloc: Global,
     heap: &mut Heap,
-    from: &[Value],
+    of: Serial,
     levels: u32,
 ) -> Result<Vec<Value>, AllocError>
-    requires known { KnowsAll heap.old.cells from.now }
-    requires fits { weight (copied_items (copied levels) heap.old from.now).1.cells ≤ 67108864 }
-    ensures copy { IfOk result (λ list. (list.items, heap.new) ≡ copied_items (copied levels) heap.old from.now) }
+    requires known { is_array (cell_at heap.old.cells of.0) ≡ true }
+    requires fits { weight (copied_items (copied levels) heap.old (items_of (cell_at heap.old.cells of.0))).1.cells ≤ 67108864 }
+    ensures copy { IfOk result (λ list. (list.items, heap.new) ≡ copied_items (copied levels) heap.old (items_of (cell_at heap.old.cells of.0))) }
     ensures keeps { Keeps heap.old.cells heap.new.cells }
     ensures known { IfOk result (λ list. KnowsAll heap.new.cells list.items) }
 {
     let mut copy = Vec::new(alloc);
-    for v in from {
-        copy.push(copy_value(alloc, heap, v, levels)?)?;
+    for i in 0..items(heap, of).len() {
+        let v = item(heap, of, i)?;
+        copy.push(copy_value(alloc, heap, &v, levels)?)?;
     }
     Ok(copy)
 }
@@ -146,20 +166,19 @@ fn copy_items(
 fn copy_entries(
     alloc: Global,
     heap: &mut Heap,
-    from: &Entries,
+    of: Serial,
     levels: u32,
 ) -> Result<Entries, AllocError>
-    requires known { KnowsEntries heap.old.cells from.now }
-    requires once { HasKeysOnce from.now }
-    requires fits { weight (copied_entries (copied levels) heap.old from.now).1.cells ≤ 67108864 }
-    ensures copy { IfOk result (λ es. (es, heap.new) ≡ copied_entries (copied levels) heap.old from.now) }
+    requires known { is_dict (cell_at heap.old.cells of.0) ≡ true }
+    requires fits { weight (copied_entries (copied levels) heap.old (entries_of (cell_at heap.old.cells of.0))).1.cells ≤ 67108864 }
+    ensures copy { IfOk result (λ es. (es, heap.new) ≡ copied_entries (copied levels) heap.old (entries_of (cell_at heap.old.cells of.0))) }
     ensures keeps { Keeps heap.old.cells heap.new.cells }
     ensures known { IfOk result (λ es. KnowsEntries heap.new.cells es) }
 {
     let mut copy = Entries::new(alloc);
-    for i in 0..from.len() {
-        let (key, v) = from.entry_at(i);
-        let inner = copy_value(alloc, heap, v, levels)?;
+    for i in 0..entries(heap, of).len() {
+        let (key, v) = entry(heap, of, i)?;
+        let inner = copy_value(alloc, heap, &v, levels)?;
         enter(&mut copy, key, inner)?;
     }
     Ok(copy)

@@ -5,6 +5,7 @@ ghost use Rattle.std.specs.Prelude.{◌≡◌, true, IfOk};
 ghost use Rattle.variant_values.specs.Heaps.{knows};
 ghost use Rattle.variant_values.specs.Changes.{Keeps, HasGiven};
 ghost use Rattle.variant_values.specs.Copies.{deep_copy_of};
+ghost use Rattle.deep_copies.specs.DeepCopies.{IsDeepCopy};
 
 mod copies;
 mod rooms;
@@ -23,9 +24,11 @@ use variant_values::values::Value;
 pub fn deep_copy(alloc: Global, heap: &mut Heap, of: &Value) -> Result<Value, Trouble>
     requires { knows heap.old.cells of.now ≡ true }
     ensures given { HasGiven result heap.old heap.new (deep_copy_of heap.old of.now) }
+    ensures apart { IfOk result (λ v. IsDeepCopy heap.old.cells heap.new.cells of.now v) }
     ensures keeps { Keeps heap.old.cells heap.new.cells }
     ensures known { IfOk result (λ v. knows heap.new.cells v ≡ true) }
 {
+    heap.is_sound();
     if !is_within(heap, of) {
         return Err(Trouble::Fault(RunFault::TooDeep));
     }

@@ -303,3 +303,69 @@ fn a_full_heap_takes_no_part_of_a_copy(rt: HostRuntime) -> Result<(), Fail> {
     assert_eq!(rt; heap.room(), 33_554_316);
     check_refused(&rt, &mut heap, &outer, RunFault::HeapFull, 4)
 }
+
+// 16 + 32 * 1,048,578 = 33,554,512 of the array, and 16 + 4 of the dictionary; 33,554,332 are left.
+#[test]
+fn a_full_heap_takes_no_part_of_a_copied_dictionary(rt: HostRuntime) -> Result<(), Fail> {
+    let mut heap = Heap::new(rt.alloc())?;
+    let text = Value::Str(long_text(rt.alloc())?);
+    let half = add_repeated(rt.alloc(), &mut heap, &text, 32)?;
+    let dict = add_dict(rt.alloc(), &mut heap, 1, &half)?;
+    assert_eq!(rt; heap.room(), 33_554_332);
+    check_refused(&rt, &mut heap, &dict, RunFault::HeapFull, 3)
+}
+
+#[test]
+fn a_dictionary_is_copied_with_what_is_inside(rt: HostRuntime) -> Result<(), Fail> {
+    let mut heap = Heap::new(rt.alloc())?;
+    let inner = add_array(rt.alloc(), &mut heap, None)?;
+    let dict = add_dict(rt.alloc(), &mut heap, 7, &inner)?;
+    let copy = deep_copy(rt.alloc(), &mut heap, &dict)?;
+    assert!(rt; matches!(copy, Value::Dict(s) if s.0 == 4));
+    assert_eq!(rt; shown(rt.alloc(), &heap, &copy)?.as_str(), "array 3;");
+    assert_eq!(rt; shown(rt.alloc(), &heap, &dict)?.as_str(), "array 1;");
+    Ok(())
+}
+
+/// A dictionary in a dictionary, so many.
+fn add_dict_chain(alloc: Global, heap: &mut Heap, levels: u32) -> Result<Value, Fail>
+    ensures known { IfOk result (λ v. knows heap.new.cells v ≡ true) }
+{
+    let mut top = add_dict(alloc, heap, 0, &Value::Null)?;
+    for _ in 1..levels {
+        top = add_dict(alloc, heap, 0, &top)?;
+    }
+    Ok(top)
+}
+
+#[test]
+fn sixty_four_levels_of_dictionaries_pass(rt: HostRuntime) -> Result<(), Fail> {
+    let mut heap = Heap::new(rt.alloc())?;
+    let top = add_dict_chain(rt.alloc(), &mut heap, 64)?;
+    let copy = deep_copy(rt.alloc(), &mut heap, &top)?;
+    assert!(rt; matches!(copy, Value::Dict(s) if s.0 == 128));
+    assert_eq!(rt;
+        shown(rt.alloc(), &heap, &copy)?.as_str(),
+        "dictionary 127;"
+    );
+    Ok(())
+}
+
+#[test]
+fn sixty_five_levels_of_dictionaries_are_too_deep(rt: HostRuntime) -> Result<(), Fail> {
+    let mut heap = Heap::new(rt.alloc())?;
+    let top = add_dict_chain(rt.alloc(), &mut heap, 65)?;
+    check_refused(&rt, &mut heap, &top, RunFault::TooDeep, 66)
+}
+
+// The array 1 of 1,023 numbers stands 1,024 times in the array 2: the walk comes to 1,024 + 1,024 * 1,023 = 1,048,576 items.
+#[test]
+fn as_many_items_as_a_walk_comes_to(rt: HostRuntime) -> Result<(), Fail> {
+    let mut heap = Heap::new(rt.alloc())?;
+    let inner = add_repeated(rt.alloc(), &mut heap, &Value::Int(5), 1_023)?;
+    let outer = add_repeated(rt.alloc(), &mut heap, &inner, 1_024)?;
+    let copy = deep_copy(rt.alloc(), &mut heap, &outer)?;
+    assert!(rt; matches!(copy, Value::Array(s) if s.0 == 1_027));
+    push(rt.alloc(), &mut heap, &outer, &Value::Int(5))?;
+    check_refused(&rt, &mut heap, &outer, RunFault::TooDeep, 1_028)
+}

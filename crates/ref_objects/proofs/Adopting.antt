@@ -89,14 +89,14 @@ pub nodes_now : (a c : List Slot) (x total : ℕ) (f : NodePart → NodePart) �
 nodes_now a c x total f h k p g = put_now a c x total _ h k p (node_kind f (cell_at (cells_of a) x)) (λ y. node_places f y (cell_at (cells_of a) x)) (node_weight f (cell_at (cells_of a) x)) (node_known (cells_of a) f (cell_at (cells_of a) x) g (k.known x))
 
 -- a name
-module _ (a c : List Slot) (x total : ℕ) (q : List Serial) (h : Heap) (e : heap_of a q ≡ h) (node : is_node (cell_at h.cells x) ≡ true) (s : IsSteady a total) (name : List ℕ) (p : IsPut a c x (node_put (named name) (cell_at (cells_of a) x))) where
+module _ (a c : List Slot) (x total links : ℕ) (q : List Serial) (h : Heap) (e : heap_of a q ≡ h) (node : is_node (cell_at h.cells x) ≡ true) (s : IsSteady a total links) (name : List ℕ) (p : IsPut a c x (node_put (named name) (cell_at (cells_of a) x))) where
   within : x < length a
   within = subst (λ n. x < n) (length-map a (λ s. s.cell)) (node_within (cells_of a) x (subst (λ (g : Heap). is_node (cell_at g.cells x) ≡ true) (sym e) node))
 
   named_now : IsNow a c total (set (cells_of a) x (node_put (named name) (cell_at (cells_of a) x)))
   named_now = nodes_now a c x total (named name) within s.kept p (λ m k. k)
 
-  pub named_steady : IsSteady c total
+  pub named_steady : IsSteady c total links
   named_steady = steady_now a c x total total _ s named_now (node_apart (named name) (cell_at (cells_of a) x) (λ m. refl))
 
   pub named_heap : heap_of c q ≡ with_name h x name
@@ -126,7 +126,7 @@ rooted_placed cells x p h n r y q e = still q.0 (elim (cases_eq x y) [
     ]
 
 -- a node becomes a child
-module _ (a b c : List Slot) (parent child : Serial) (total : ℕ) (q : List Serial) (h : Heap) (e : heap_of a q ≡ h) (above : is_node (cell_at h.cells parent.0) ≡ true) (node : is_node (cell_at h.cells child.0) ≡ true) (apart : IsUnder h.cells child.0 parent.0 → ⊥) (s : IsSteady a total) (p : IsPut a b parent.0 (node_put (adopted child) (cell_at (cells_of a) parent.0))) (p' : IsPut b c child.0 (node_put (placed parent) (cell_at (cells_of b) child.0))) where
+module _ (a b c : List Slot) (parent child : Serial) (total links : ℕ) (q : List Serial) (h : Heap) (e : heap_of a q ≡ h) (above : is_node (cell_at h.cells parent.0) ≡ true) (node : is_node (cell_at h.cells child.0) ≡ true) (apart : IsUnder h.cells child.0 parent.0 → ⊥) (s : IsSteady a total links) (p : IsPut a b parent.0 (node_put (adopted child) (cell_at (cells_of a) parent.0))) (p' : IsPut b c child.0 (node_put (placed parent) (cell_at (cells_of b) child.0))) where
   above_a : is_node (cell_at (cells_of a) parent.0) ≡ true
   above_a = subst (λ (g : Heap). is_node (cell_at g.cells parent.0) ≡ true) (sym e) above
 
@@ -139,7 +139,7 @@ module _ (a b c : List Slot) (parent child : Serial) (total : ℕ) (q : List Ser
   adopted_now : IsNow a b total (set (cells_of a) parent.0 (node_put (adopted child) (cell_at (cells_of a) parent.0)))
   adopted_now = nodes_now a b parent.0 total (adopted child) (subst (λ n. parent.0 < n) (length-map a (λ s. s.cell)) within_a) s.kept p (λ m k. (k.0, All-push (λ s. knows_object (cells_of a) s ≡ true) m.children child k.1 (object_known a total child s (node_object (cell_at (cells_of a) child.0) node_a))))
 
-  steady_b : IsSteady b total
+  steady_b : IsSteady b total links
   steady_b = steady_now a b parent.0 total total _ s adopted_now (node_apart (adopted child) (cell_at (cells_of a) parent.0) (λ m. refl))
 
   two : parent.0 ≡ child.0 → ⊥
@@ -160,11 +160,12 @@ module _ (a b c : List Slot) (parent child : Serial) (total : ℕ) (q : List Ser
   placed_now : IsNow b c total (set (cells_of b) child.0 (node_put (placed parent) (cell_at (cells_of b) child.0)))
   placed_now = nodes_now b c child.0 total (placed parent) (subst (λ n. child.0 < n) (length-map b (λ s. s.cell)) within_b) steady_b.kept p' (λ m k. (object_known b total parent steady_b (node_object (cell_at (cells_of b) parent.0) above_b), k.1))
 
-  pub child_steady : IsSteady c total
+  pub child_steady : IsSteady c total links
   child_steady = record {
     kept = placed_now.kept;
     rooted = rw placed_now.cells_are (rooted_placed (cells_of b) child.0 parent within_b above_b steady_b.rooted);
     few_links = omega (arith, links_c, steady_b.few_links);
+    bound = s.bound;
   }
     where
       links_c : connections_in (cells_of c) ≤ connections_in (cells_of b)

@@ -391,7 +391,7 @@ module _ (a c : List Slot) (x : ℕ) (p : IsPruned a c x) where
     | inr left ↦ (left.0, sym (without_same parent_of bereft_parent (cells_of a) x y) ∙ sym (cut_parent (is_living (cells_of c)) (cell_at (without_child (cells_of a) x) y)) ∙ sym (ap parent_of left.1) ∙ e)
   ]
 
-  pub pruned_steady : (total left : ℕ) → IsSteady a total → IsKept c left → IsSteady c left
+  pub pruned_steady : {links : ℕ} (total left : ℕ) → IsSteady a total links → IsKept c left → IsSteady c left links
   pruned_steady total left s k = record {
     kept = k;
     rooted = λ y q e.
@@ -401,6 +401,7 @@ module _ (a c : List Slot) (x : ℕ) (p : IsPruned a c x) where
           | inr stays ↦ ap is_node stays.1 ∙ cut_node (is_living (cells_of c)) (cell_at (without_child (cells_of a) x) q.0) ∙ without_same is_node bereft_node (cells_of a) x q.0 ∙ s.rooted y q was.1
         ];
     few_links = omega (arith, no_more, s.few_links);
+    bound = s.bound;
   }
     where
       no_more : connections_in (cells_of c) ≤ connections_in (cells_of a)

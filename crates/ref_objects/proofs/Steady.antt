@@ -24,8 +24,8 @@ use Rattle.ref_objects.specs.Slots.{cells_of, heap_of, IsKept, IsSteady, IsNow, 
 use Rattle.ref_objects.proofs.Swapping.{IsSameKind, IsSwapped, swapped_kept, swapped_held}
 
 -- the cells as they were
-pub steady_same : (a b : List Slot) (total total' : ℕ) → IsSteady a total → IsKept b total' → cells_of b ≡ cells_of a → IsSteady b total'
-steady_same a b total total' s k e = record { kept = k; rooted = rw e s.rooted; few_links = rw e s.few_links }
+pub steady_same : {links : ℕ} (a b : List Slot) (total total' : ℕ) → IsSteady a total links → IsKept b total' → cells_of b ≡ cells_of a → IsSteady b total' links
+steady_same a b total total' s k e = record { kept = k; rooted = rw e s.rooted; few_links = rw e s.few_links; bound = s.bound }
 
 -- where no cell has more connections, there are no more in all
 pub fewer : (a b : List (Option Cell)) → length b ≡ length a → ((x : ℕ) → length (connections_of (cell_at b x)) ≤ length (connections_of (cell_at a x))) → connections_in b ≤ connections_in a
@@ -50,12 +50,13 @@ rooted_put cells x t h p n r y q e = here q.0 ∙ r y q (sym (there y) ∙ e)
       | inr ne ↦ ap parent_of (get_or-set_other cells x y t None (λ e. ne (sym e)))
     ]
 
-pub steady_put : (a b : List Slot) (x total total' : ℕ) (t : Option Cell) → IsSteady a total → IsKept b total' → cells_of b ≡ set (cells_of a) x t → parent_of t ≡ parent_of (cell_at (cells_of a) x) → is_node t ≡ is_node (cell_at (cells_of a) x) → connections_of t ≡ connections_of (cell_at (cells_of a) x) → IsSteady b total'
+pub steady_put : {links : ℕ} (a b : List Slot) (x total total' : ℕ) (t : Option Cell) → IsSteady a total links → IsKept b total' → cells_of b ≡ set (cells_of a) x t → parent_of t ≡ parent_of (cell_at (cells_of a) x) → is_node t ≡ is_node (cell_at (cells_of a) x) → connections_of t ≡ connections_of (cell_at (cells_of a) x) → IsSteady b total' links
 steady_put a b x total total' t s k e p n l = elim (cases_lt x (length (cells_of a))) [
   | inl within ↦ record {
     kept = k;
     rooted = rw e (rooted_put (cells_of a) x t within p n s.rooted);
     few_links = rw e (omega (arith, sum_by-set (λ w. length (connections_of w)) (cells_of a) x t None within, ap length l, s.few_links));
+    bound = s.bound;
   }
   | inr past ↦ steady_same a b total total' s k (e ∙ set_past (cells_of a) x t past)
 ]
@@ -84,7 +85,7 @@ entries_apart es (Some (ArrayCell ws of)) = record { parent = refl; node = refl;
 entries_apart es (Some (DictCell fs)) = record { parent = refl; node = refl; links = refl }
 entries_apart es (Some (ObjectCell o)) = record { parent = refl; node = refl; links = refl }
 
-pub steady_now : (a b : List Slot) (x total total' : ℕ) (t : Option Cell) → IsSteady a total → IsNow a b total' (set (cells_of a) x t) → IsApart (cell_at (cells_of a) x) t → IsSteady b total'
+pub steady_now : {links : ℕ} (a b : List Slot) (x total total' : ℕ) (t : Option Cell) → IsSteady a total links → IsNow a b total' (set (cells_of a) x t) → IsApart (cell_at (cells_of a) x) t → IsSteady b total' links
 steady_now a b x total total' t s n p = steady_put a b x total total' t s n.kept n.cells_are p.parent p.node p.links
 
 -- a cell more, which is new
@@ -116,11 +117,12 @@ rooted_grown cells c f r y q e = elim (cases_lt y (length cells)) [
   ]
 ]
 
-pub steady_grown : (a b : List Slot) (total total' : ℕ) (c : Cell) → IsSteady a total → IsFresh c → IsGrown a b total' c → IsSteady b total'
+pub steady_grown : {links : ℕ} (a b : List Slot) (total total' : ℕ) (c : Cell) → IsSteady a total links → IsFresh c → IsGrown a b total' c → IsSteady b total' links
 steady_grown a b total total' c s f g = record {
   kept = g.kept;
   rooted = rw g.cells_are (rooted_grown (cells_of a) c f s.rooted);
   few_links = rw g.cells_are (omega (arith, sum_by_push (λ w. length (connections_of w)) (cells_of a) (Some c), fresh_links c f, s.few_links));
+  bound = s.bound;
 }
 
 -- a sweep
@@ -177,11 +179,12 @@ module _ (h new : Heap) (s : IsSwept h new) where
     | inr left ↦ omega (arith, ap (λ w. length (connections_of w)) left.1, cut_fewer (is_living new.cells) (cell_at h.cells x))
   ])
 
-pub steady_swept : (a b : List Slot) (q : List Serial) (total total' : ℕ) → IsSteady a total → IsKept b total' → IsSwept (heap_of a q) (heap_of b q) → IsSteady b total'
+pub steady_swept : {links : ℕ} (a b : List Slot) (q : List Serial) (total total' : ℕ) → IsSteady a total links → IsKept b total' → IsSwept (heap_of a q) (heap_of b q) → IsSteady b total' links
 steady_swept a b q total total' s k w = record {
   kept = k;
   rooted = swept_rooted (heap_of a q) (heap_of b q) w s.rooted;
   few_links = omega (arith, swept_fewer (heap_of a q) (heap_of b q) w, s.few_links);
+  bound = s.bound;
 }
 
 -- a cell is another with the same values
@@ -247,12 +250,13 @@ pub links_now : (a c : List Slot) (x total : ℕ) (cs : List Connection) → x <
 links_now a c x total cs h k p n = put_now a c x total _ h k p (links_kind cs (cell_at (cells_of a) x)) (λ y. links_places cs y (cell_at (cells_of a) x)) (links_weight cs (cell_at (cells_of a) x)) (links_known (cells_of a) cs (cell_at (cells_of a) x) (λ e. n) (k.known x))
 
 -- an object has other connections, and no more than may stand
-pub links_steady : (a c : List Slot) (x total : ℕ) (cs : List Connection) → x < length a → is_object (cell_at (cells_of a) x) ≡ true → IsSteady a total → IsNow a c total (set (cells_of a) x (connections_put cs (cell_at (cells_of a) x))) → connections_in (cells_of a) + length cs < 2 ^ 32 + length (connections_of (cell_at (cells_of a) x)) → IsSteady c total
-links_steady a c x total cs h o s n few =
+pub links_steady : {before : ℕ} (a c : List Slot) (x total links : ℕ) (cs : List Connection) → x < length a → is_object (cell_at (cells_of a) x) ≡ true → IsSteady a total before → IsNow a c total (set (cells_of a) x (connections_put cs (cell_at (cells_of a) x))) → connections_in (cells_of a) + length cs ≤ links + length (connections_of (cell_at (cells_of a) x)) → links < 2 ^ 32 → IsSteady c total links
+links_steady a c x total links cs h o s n few bound =
     let within : x < length (cells_of a) = rw (length-map a (λ s. s.cell)) h in
     let t = connections_put cs (cell_at (cells_of a) x) in
     record {
       kept = n.kept;
       rooted = rw n.cells_are (rooted_put (cells_of a) x t within (links_parent cs (cell_at (cells_of a) x)) (links_node cs (cell_at (cells_of a) x)) s.rooted);
       few_links = rw n.cells_are (omega (arith, sum_by-set (λ w. length (connections_of w)) (cells_of a) x t None within, ap length (links_are cs (cell_at (cells_of a) x) o), few));
+      bound = bound;
     }

@@ -17,7 +17,7 @@ pub fn add_cell(slots: &mut Vec<Slot>, cell: Cell, total: u64) -> Result<u64, Tr
     requires kept { IsKept slots.old.items total }
     requires known { KnowsCell (cells_of slots.old.items) cell }
     ensures full { (result ≡ Err (Trouble.Fault RunFault.HeapFull)) ↔ (67108864 < weight (cells_of slots.old.items) + cell_weight cell) }
-    ensures ok { IfOk result (λ left. IsGrown slots.old.items slots.new.items left cell) }
+    ensures ok { IfOk result (λ after. IsGrown slots.old.items slots.new.items after cell) }
     ensures err { OnErr result (slots.new.items ≡ slots.old.items) }
     ensures only { IfErr result (λ e. (e ≡ Trouble.Fault RunFault.HeapFull) ⊎ (e ≡ Trouble.NoMemory)) }
 {

@@ -126,7 +126,7 @@ pub fn store_splice(
     requires items { at + out ≤ length (items_of (cell_at (cells_of slots.old.items) x)) }
     requires put { KnowsAll (cells_of slots.old.items) put.items }
     ensures full { (result ≡ Err (Trouble.Fault RunFault.HeapFull)) ↔ (67108864 < weight (slice_set (cells_of slots.old.items) x (items_put (spliced (items_of (cell_at (cells_of slots.old.items) x)) at out put.items) (cell_at (cells_of slots.old.items) x)))) }
-    ensures ok { IfOk result (λ left. IsNow slots.old.items slots.new.items left (slice_set (cells_of slots.old.items) x (items_put (spliced (items_of (cell_at (cells_of slots.old.items) x)) at out put.items) (cell_at (cells_of slots.old.items) x)))) }
+    ensures ok { IfOk result (λ after. IsNow slots.old.items slots.new.items after (slice_set (cells_of slots.old.items) x (items_put (spliced (items_of (cell_at (cells_of slots.old.items) x)) at out put.items) (cell_at (cells_of slots.old.items) x)))) }
     ensures err { OnErr result (IsNow slots.old.items slots.new.items total (cells_of slots.old.items)) }
     ensures only { IfErr result (λ e. (e ≡ Trouble.Fault RunFault.HeapFull) ⊎ (e ≡ Trouble.NoMemory)) }
 {

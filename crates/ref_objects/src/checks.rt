@@ -3,9 +3,9 @@ ghost use Rattle.std.specs.Prelude.{◌≡◌, ◌<◌, ◌≤◌, ◌^◌, leng
 ghost use Rattle.variant_values.specs.Places.{place_of, key_place, one_at, in_value, in_values, in_entries, in_slot, in_cells, is_counted};
 ghost use Rattle.variant_values.specs.Heaps.{cell_at, is_living, held_at, is_given, is_array, is_dict, is_object, is_no_container, knows, knows_key, knows_object, KnowsAll, field_in, items_of};
 ghost use Rattle.variant_values.specs.Trees.{IsUnder, is_node, parent_of};
-ghost use Rattle.ref_objects.specs.Slots.{cells_of, count_at, held_of};
+ghost use Rattle.ref_objects.specs.Slots.{cells_of, held_of};
 
-use crate::counts::{key_place, place_of};
+use crate::counts::{count, key_place, place_of};
 use crate::fields::field_at;
 use crate::heap::Heap;
 use crate::objects::parent_at;
@@ -199,15 +199,6 @@ fn places(slots: &[Slot], x: u64) -> u128
         n += places_in_cell(slots, i, x);
     }
     n
-}
-
-fn count(slots: &[Slot], x: u64) -> u128
-    ensures { result ≡ count_at slots.now x }
-{
-    if x as usize >= slots.len() {
-        return 0;
-    }
-    slots[x as usize].count
 }
 
 fn few(slots: &[Slot], x: u64) -> bool

@@ -39,6 +39,16 @@ pub fn key_place(k: &Key) -> u64
     }
 }
 
+/// The count of a cell, 0 where it has gone.
+pub fn count(slots: &[Slot], x: u64) -> u128
+    ensures { result ≡ count_at slots.now x }
+{
+    if x as usize >= slots.len() {
+        return 0;
+    }
+    slots[x as usize].count
+}
+
 /// One place more holds the cell x.
 pub fn raise(slots: &mut Vec<Slot>, x: usize)
     requires within { x < length slots.old.items }

@@ -92,7 +92,7 @@ pub fn store_entry(
     requires key { knows_key (cells_of slots.old.items) key ≡ true }
     requires to { knows (cells_of slots.old.items) to ≡ true }
     ensures full { (result ≡ Err (Trouble.Fault RunFault.HeapFull)) ↔ (67108864 < weight (slice_set (cells_of slots.old.items) x (entries_put (with_entry (entries_of (cell_at (cells_of slots.old.items) x)) key to) (cell_at (cells_of slots.old.items) x)))) }
-    ensures ok { IfOk result (λ left. IsNow slots.old.items slots.new.items left (slice_set (cells_of slots.old.items) x (entries_put (with_entry (entries_of (cell_at (cells_of slots.old.items) x)) key to) (cell_at (cells_of slots.old.items) x)))) }
+    ensures ok { IfOk result (λ after. IsNow slots.old.items slots.new.items after (slice_set (cells_of slots.old.items) x (entries_put (with_entry (entries_of (cell_at (cells_of slots.old.items) x)) key to) (cell_at (cells_of slots.old.items) x)))) }
     ensures err { OnErr result (slots.new.items ≡ slots.old.items) }
     ensures only { IfErr result (λ e. (e ≡ Trouble.Fault RunFault.HeapFull) ⊎ (e ≡ Trouble.NoMemory)) }
 {
@@ -131,7 +131,7 @@ pub fn drop_entry(slots: &mut Vec<Slot>, x: usize, key: &Key, total: u64) -> Opt
     requires dict { is_dict (cell_at (cells_of slots.old.items) x) ≡ true }
     requires key { knows_key (cells_of slots.old.items) key.now ≡ true }
     ensures found { is_some result ≡ is_some (lookup (same_key key.now) (entries_of (cell_at (cells_of slots.old.items) x))) }
-    ensures some { IfSome result (λ left. IsNow slots.old.items slots.new.items left (slice_set (cells_of slots.old.items) x (entries_put (without_entry (entries_of (cell_at (cells_of slots.old.items) x)) key.now) (cell_at (cells_of slots.old.items) x)))) }
+    ensures some { IfSome result (λ after. IsNow slots.old.items slots.new.items after (slice_set (cells_of slots.old.items) x (entries_put (without_entry (entries_of (cell_at (cells_of slots.old.items) x)) key.now) (cell_at (cells_of slots.old.items) x)))) }
     ensures none { IfNone result (IsNow slots.old.items slots.new.items total (slice_set (cells_of slots.old.items) x (entries_put (without_entry (entries_of (cell_at (cells_of slots.old.items) x)) key.now) (cell_at (cells_of slots.old.items) x)))) }
 {
     match take_entry(slots, x, key) {

@@ -66,19 +66,19 @@ pub fn store_field(
     requires to { knows (cells_of slots.old.items) to ≡ true }
     ensures gone { (result ≡ Err (Trouble.Fault RunFault.FreedAccess)) ↔ (lives slots.old.items x ≡ false) }
     ensures full { (result ≡ Err (Trouble.Fault RunFault.HeapFull)) ↔ ((lives slots.old.items x ≡ true) × (67108864 < weight (slice_set (cells_of slots.old.items) x (field_put index to (cell_at (cells_of slots.old.items) x))))) }
-    ensures ok { IfOk result (λ left. IsNow slots.old.items slots.new.items left (slice_set (cells_of slots.old.items) x (field_put index to (cell_at (cells_of slots.old.items) x)))) }
+    ensures ok { IfOk result (λ after. IsNow slots.old.items slots.new.items after (slice_set (cells_of slots.old.items) x (field_put index to (cell_at (cells_of slots.old.items) x)))) }
     ensures err { OnErr result (slots.new.items ≡ slots.old.items) }
     ensures only { IfErr result (λ e. (e ≡ Trouble.Fault RunFault.FreedAccess) ⊎ (e ≡ Trouble.Fault RunFault.HeapFull)) }
 {
     let Some(light) = field_weight(slots.as_slice(), x, index) else {
         return Err(Trouble::Fault(RunFault::FreedAccess));
     };
-    let left = total - light + item_weight(&to);
-    if left > LIMIT {
+    let after = total - light + item_weight(&to);
+    if after > LIMIT {
         return Err(Trouble::Fault(RunFault::HeapFull));
     }
     raise(slots, place_of(&to) as usize);
     let before = swap_field(slots, x, index, to);
     lower(slots, place_of(&before) as usize);
-    Ok(left)
+    Ok(after)
 }

@@ -1,6 +1,6 @@
 ghost use Rattle.std.specs.Prelude.{◌≡◌, ◌+◌, ◌<◌, ◌≤◌, ◌^◌, length, true, false, is_some, Err, OnOk, OnErr, IfOk, IfErr, Some, None, option_copied, if◌then◌else◌, ◌↔◌, ◌⊎◌};
 ghost use Rattle.variant_values.specs.Places.{is_counted, place_of, weight, cell_weight};
-ghost use Rattle.variant_values.specs.Heaps.{is_given, is_array, items_of, with_splice, KnowsAll, is_dict, knows_key, with_entry_at, without_entry_at, entries_of, unlinked, is_object, objects_in, empty_heap, with_new, IsFresh, KnowsCell, knows, knows_object, cell_at, field_in, with_field, is_living, held_at, retained, released};
+ghost use Rattle.variant_values.specs.Heaps.{is_given, is_array, items_of, with_splice, KnowsAll, is_dict, knows_key, with_entry_at, without_entry_at, entries_of, unlinked, is_object, objects_in, empty_heap, with_new, IsFresh, KnowsCell, knows, knows_object, cell_at, field_in, with_field, is_living, held_at, refs, retained, released};
 ghost use Rattle.std.specs.List.{list_any};
 ghost use Rattle.std.specs.Map.{lookup};
 ghost use Rattle.std.specs.Option.{option_map};
@@ -12,14 +12,14 @@ ghost use Rattle.variant_values.specs.Trees.{IsUnder, IsFreed, is_node, parent_o
 
 use crate::allocate::{LIMIT, add_cell};
 use crate::arrays::store_splice;
-use crate::counts::{lower, place_of, raise};
+use crate::counts::{count, lower, place_of, raise};
 use crate::dicts::{drop_entry, store_entry};
 use crate::fields::{field_at, store_field};
 use crate::frees::free_tree;
 use crate::links::cut_all;
 use crate::objects::{
-    add_link, adopt_node, count_links, count_objects, drop_link, links_at, name_node, new_link,
-    place_node,
+    MOST_LINKS, add_link, adopt_node, count_objects, drop_link, links_at, links_bound, name_node,
+    new_link, place_node,
 };
 use crate::slots::{Slot, lives};
 use crate::sweeps::take_zeros;
@@ -30,11 +30,14 @@ use variant_values::faults::{RunFault, Trouble};
 use variant_values::texts::Str;
 use variant_values::values::{Key, Serial, Value};
 
-/// The heap. Contracts see its cells by serial, and how many values of each a caller retains.
+/// The heap. Contracts see its cells by serial, how many values of each a caller retains, and the nodes to be freed.
 #[derive(Drop)]
 pub struct Heap {
     pub(crate) slots: Vec<Slot>,
+    /// What the cells weigh.
     total: u64,
+    /// No less than the number of connections.
+    links: u64,
     queued: Vec<Serial>,
     alloc: Global,
 }
@@ -47,10 +50,28 @@ impl Model for Heap {
 
     ghost view = { λ h. heap_of h.slots.items h.queued.items };
 
-    ghost invariant = { λ h. IsSteady h.slots.items h.total };
+    ghost invariant = { λ h. IsSteady h.slots.items h.total h.links };
 }
 
 impl Heap {
+    /// No cells.
+    pub fn new(alloc: Global) -> Result<Heap, AllocError>
+        ensures { IfOk result (λ h. h ≡ empty_heap) }
+    {
+        let mut slots = Vec::new(alloc);
+        slots.push(Slot {
+            cell: None,
+            count: 0,
+        })?;
+        Ok(Heap {
+            slots,
+            total: 0,
+            links: 0,
+            queued: Vec::new(alloc),
+            alloc,
+        })
+    }
+
     /// A caller retains one value more.
     pub fn retain(&mut self, v: &Value)
         requires known { knows self.old.cells v.now ≡ true }
@@ -99,23 +120,6 @@ impl Heap {
         Ok(())
     }
 
-    /// No cells.
-    pub fn new(alloc: Global) -> Result<Heap, AllocError>
-        ensures { IfOk result (λ h. h ≡ empty_heap) }
-    {
-        let mut slots = Vec::new(alloc);
-        slots.push(Slot {
-            cell: None,
-            count: 0,
-        })?;
-        Ok(Heap {
-            slots,
-            total: 0,
-            queued: Vec::new(alloc),
-            alloc,
-        })
-    }
-
     /// Null where it has gone.
     pub fn weak_get(&self, of: Serial) -> Value
         requires { knows_object self.now.cells of ≡ true }
@@ -158,6 +162,14 @@ impl Heap {
     {
         let _count = self.slots.len();
         LIMIT - self.total
+    }
+
+    /// A cell's count. Where the cell lives it is the number of its references: those in cells, and those that a caller retains.
+    pub fn count_of(&self, of: Serial) -> u128
+        ensures living { is_living self.now.cells of.0 ≡ true → result ≡ refs self.now of.0 }
+        ensures gone { is_living self.now.cells of.0 ≡ false → result ≡ 0 }
+    {
+        count(self.slots.as_slice(), of.0)
     }
 
     /// What is true of every heap.
@@ -219,10 +231,12 @@ impl Heap {
         ensures err { OnErr result (self.new ≡ self.old) }
         ensures only { IfErr result (λ e. (e ≡ Trouble.Fault RunFault.HeapFull) ⊎ (e ≡ Trouble.NoMemory)) }
     {
-        if count_links(self.slots.as_slice()) == 4_294_967_295 {
+        let links = links_bound(self.slots.as_slice(), self.links);
+        if links == MOST_LINKS {
             return Err(Trouble::Fault(RunFault::HeapFull));
         }
         let row = new_link(signal, to, method)?;
+        self.links = links + 1;
         add_link(&mut self.slots, from.0 as usize, row)
     }
 

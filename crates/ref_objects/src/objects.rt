@@ -1,4 +1,4 @@
-ghost use Rattle.std.specs.Prelude.{◌≡◌, ◌<◌, ◌^◌, length, true, cond, Some, ◌++◌, ◌∷◌, [], filter, not, IfOk, IfErr, OnOk, OnErr};
+ghost use Rattle.std.specs.Prelude.{◌≡◌, ◌<◌, ◌≤◌, ◌^◌, length, true, cond, Some, ◌++◌, ◌∷◌, [], filter, not, IfOk, IfErr, OnOk, OnErr};
 ghost use Rattle.std.specs.List.{list_any};
 ghost use Rattle.variant_values.specs.Heaps.{cell_at, is_object, objects_in};
 ghost use Rattle.variant_values.specs.Links.{connections_of, connections_put, connections_in, is_connection};
@@ -35,7 +35,7 @@ pub fn count_objects(slots: &[Slot]) -> u64
 }
 
 /// The number of an object's connections.
-fn links_len(slots: &[Slot], x: usize) -> u64
+pub fn links_len(slots: &[Slot], x: usize) -> u64
     requires { x < length slots.now }
     ensures { result ≡ length (connections_of (cell_at (cells_of slots.now) x)) }
 {
@@ -45,8 +45,11 @@ fn links_len(slots: &[Slot], x: usize) -> u64
     }
 }
 
+/// The most connections that may stand in all cells.
+pub const MOST_LINKS: u64 = 4_294_967_295;
+
 /// The number of connections.
-pub fn count_links(slots: &[Slot]) -> u64
+fn count_links(slots: &[Slot]) -> u64
     requires { connections_in (cells_of slots.now) < 2 ^ 32 }
     ensures { result ≡ connections_in (cells_of slots.now) }
 {
@@ -55,6 +58,21 @@ pub fn count_links(slots: &[Slot]) -> u64
         count += links_len(slots, x);
     }
     count
+}
+
+/// A bound of the number of connections, from one that is known. Counts them only where that is the most that may be.
+pub fn links_bound(slots: &[Slot], links: u64) -> u64
+    requires bound { connections_in (cells_of slots.now) ≤ links }
+    requires few { links < 2 ^ 32 }
+    ensures bound { connections_in (cells_of slots.now) ≤ result }
+    ensures few { result < 2 ^ 32 }
+    ensures exact { result ≡ 4294967295 → connections_in (cells_of slots.now) ≡ 4294967295 }
+{
+    if links < MOST_LINKS {
+        links
+    } else {
+        count_links(slots)
+    }
 }
 
 /// The connections of an object.

@@ -124,6 +124,17 @@ fn lives(rt: &impl Abort, heap: &Heap, of: Serial) -> bool {
     heap.cell(of).is_some()
 }
 
+fn is_named(rt: &impl Abort, heap: &Heap, of: Serial, name: &str) -> bool {
+    assert!(rt; heap.is_given(of));
+    match heap.cell(of) {
+        Some(Cell::Object(object)) => match &object.node {
+            Some(node) => node.name.as_str() == name,
+            None => false,
+        },
+        _ => false,
+    }
+}
+
 fn connect(
     rt: &(impl Abort + AllocGlobal),
     heap: &mut Heap,
@@ -161,7 +172,9 @@ fn an_array_that_holds_itself_stays(rt: HostRuntime) -> Result<(), Fail> {
     assert_eq!(rt; s.0, 1);
     hold(&rt, &mut heap, &Value::Array(s));
     push(&rt, &mut heap, s, Value::Array(s))??;
+    assert_eq!(rt; heap.count_of(s), 2);
     let_go(&rt, &mut heap, &Value::Array(s));
+    assert_eq!(rt; heap.count_of(s), 1);
     heap.sweep();
     assert!(rt; lives(&rt, &heap, s));
     Ok(())
@@ -404,7 +417,7 @@ fn what_has_gone_refuses_and_changes_nothing(rt: HostRuntime) -> Result<(), Fail
     free(&rt, &mut heap, o)?;
     assert_eq!(rt;
         shown(rt.alloc(), &heap)?.as_str(),
-        "gone\ngone\n1 s>2.m node  \n1 object1: object1 \nqueued2 "
+        "gone\ngone\n1 Node s>2.m node  \n1 object1: object1 \nqueued2 room67108828"
     );
     refuses_what_has_gone(&rt, &mut heap, o)?;
     removes_nothing(&rt, &mut heap, d, n)?;
@@ -451,19 +464,35 @@ fn names_queue_and_weak_references(rt: HostRuntime) -> Result<(), Fail> {
     let n = add_node(&rt, &mut heap)?;
     assert!(rt; heap.is_node(n));
     heap.set_name(n, Str::new(rt.alloc(), "lamp")?);
+    assert!(rt; is_named(&rt, &heap, n, "lamp"));
     queue(&rt, &mut heap, n)?;
     assert_eq!(rt; heap.queued(), [n].as_slice());
     assert!(rt; heap.knows_object(n));
     assert!(rt; matches!(heap.weak_get(n), Value::Object(_)));
-    connect(&rt, &mut heap, n, n)?;
-    let signal = Str::new(rt.alloc(), "s")?;
-    let method = Str::new(rt.alloc(), "m")?;
-    assert!(rt; heap.is_object(n));
-    assert!(rt; heap.remove_connection(n, &signal, n, &method));
-    assert!(rt; heap.is_object(n));
-    assert!(rt; !heap.has_connection(n, &signal, n, &method));
     free(&rt, &mut heap, n)?;
     assert!(rt; heap.knows_object(n));
     assert!(rt; matches!(heap.weak_get(n), Value::Null));
+    Ok(())
+}
+
+#[test]
+fn connections_stand_in_order(rt: HostRuntime) -> Result<(), Fail> {
+    let mut heap = Heap::new(rt.alloc())?;
+    let a = add_node(&rt, &mut heap)?;
+    let b = add_node(&rt, &mut heap)?;
+    connect(&rt, &mut heap, a, b)?;
+    connect(&rt, &mut heap, a, a)?;
+    let signal = Str::new(rt.alloc(), "s")?;
+    let method = Str::new(rt.alloc(), "m")?;
+    assert!(rt; heap.is_object(a));
+    let targets = heap.connections(a, &signal)?;
+    assert_eq!(rt; targets.len(), 2);
+    assert_eq!(rt; targets[0].0, b);
+    assert_eq!(rt; targets[1].0, a);
+    assert!(rt; heap.has_connection(a, &signal, b, &method));
+    assert!(rt; heap.remove_connection(a, &signal, b, &method));
+    assert!(rt; heap.is_object(a));
+    assert!(rt; !heap.has_connection(a, &signal, b, &method));
+    assert!(rt; heap.has_connection(a, &signal, a, &method));
     Ok(())
 }

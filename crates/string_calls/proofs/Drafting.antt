@@ -4,7 +4,7 @@ use Rattle.std.proofs.lemmas.Bool.{false≢true, lt-leb, le-leb}
 use Rattle.variant_values.specs.declared.values.Value.{Value}
 use Rattle.variant_values.specs.Operators.{longest}
 use Rattle.string_calls.specs.declared.formats.Draft.{Draft}
-use Rattle.string_calls.specs.Drafts.{Stands, Grows}
+use Rattle.string_calls.specs.Drafts.{Stands, Grows, Fills}
 use Rattle.std.specs.List.{starts_with}
 use Rattle.std.proofs.lemmas.Bool.{eq-eqb}
 use borrow.Author.Tests.{eqb-true}
@@ -49,6 +49,10 @@ grows_nothing d = λ within front stands. subst (λ (w : Bool). Stands d w (fron
 pub grows_both : (a b c : Draft) (f g : Bool) (s t : List ℕ) → Grows a b f s → Grows b c g t → Grows a c (f && g) (s ++ t)
 grows_both a b c f g s t first second = λ within front stands.
     subst (λ (w : Bool). Stands c w (front ++ (s ++ t))) (and_assoc within f g) (subst (λ (u : List ℕ). Stands c ((within && f) && g) u) (append_assoc front s t) (second (within && f) (front ++ s) (first within front stands)))
+
+-- a text up to the width
+pub fills_padded : (old new : Draft) (d : Directive) (shown : Option (List ℕ)) (text : List ℕ) → shown ≡ Some text → Grows old new true (padded_text d text) → Fills old new true (plain (option_map (padded_text d) shown))
+fills_padded old new d shown text is grown = (true, (padded_text d text, (ap (λ o. plain (option_map (padded_text d) o)) is, grown)))
 
 -- ---- the pattern
 

@@ -136,7 +136,7 @@ known_placed : (h : Heap) (items : List Value) → IsKnown (new_array h items No
 known_placed h items = known_if _ _ _ (known_value _ _ (ap is_array (last_cell h.cells (ArrayCell items None)))) (known_fault _)
 
 known_array : (h : Heap) (texts : List (List ℕ)) → IsKnown (split_array h texts)
-known_array h texts = known_if _ _ _ (known_placed h (map (λ t. Str t) texts)) (known_fault _)
+known_array h texts = known_if _ _ _ (known_if _ _ _ (known_placed h (map (λ t. Str t) texts)) (known_fault _)) (known_fault _)
 
 known_split : (h : Heap) (text : List ℕ) (args : List Value) → IsKnown (split_call h text args)
 known_split h text args = known_given (one_given string_in args) _ (λ by. known_if _ _ _ (known_fault _) (known_array h (parts by text)))

@@ -2,7 +2,7 @@
 use Rattle.std.proofs.Common.{◌≡◌, ◌≢◌, ℕ, zero, suc, ◌+◌, ◌-◌, ◌<◌, ◌≤◌, Bool, true, false, cond, nat_le, List, [], ◌∷◌, ◌++◌, length, get_or, drop, codes, refl, sym, ap, subst, ◌∙◌, append_assoc, length-append, arith, Option, Some, None, Result, Ok, Err, if◌then◌else◌, add-one, slice_get, inl, inr}
 use Rattle.std.proofs.lemmas.Grind.{common_steps}
 use Rattle.std.proofs.lemmas.Bool.{le-leb, lt-leb, cases_lt}
-use Rattle.std.specs.List.{flat_map, join_by}
+use Rattle.std.specs.List.{flat_map, join_by, repeat}
 use Rattle.variant_values.specs.Operators.{longest, Answers}
 use Rattle.variant_values.specs.declared.classes.ClassTag.{ClassTag}
 use Rattle.variant_values.specs.declared.values.Serial.{Serial}
@@ -45,10 +45,8 @@ writes_text old new r text other is h = subst (λ t. Writes old new r t) is h
 pub text_in_string : (n : ℕ) (cells : List (Option Cell)) (names : Names) (v : Value) (text : List ℕ) → v ≡ Str text → text_in n cells names v ≡ text
 text_in_string n cells names v text is = ap (text_in n cells names) is ∙ text_in_is n cells names (Str text)
 
-pub answers_string : (cells : List (Option Cell)) (names : Names) (v : Value) (text : List ℕ) (r : Result (List ℕ) Trouble) → v ≡ Str text → true ≡ is_within (items_in most_levels cells v) → Answers r (fitting text) → Answers r (value_text cells names v)
-answers_string cells names v text r is within h =
-    let same : fitting text ≡ value_text cells names v = ap fitting (sym (text_in_string most_levels cells names v text is)) ∙ ap (λ b. if b then fitting (text_in most_levels cells names v) else Err TooDeep) within in
-    subst (λ o. Answers r o) same h
+pub answers_string : (cells : List (Option Cell)) (names : Names) (v : Value) (text : List ℕ) (r : Result (List ℕ) Trouble) → v ≡ Str text → Answers r (fitting text) → Answers r (fitting (text_in most_levels cells names v))
+answers_string cells names v text r is h = subst (λ t. Answers r (fitting t)) (sym (text_in_string most_levels cells names v text is)) h
 
 pub array_in-zero : (n : ℕ) (cells : List (Option Cell)) (names : Names) (s : Serial) → n ≡ 0 → codes "[...]" ≡ array_in n cells names s
 array_in-zero zero cells names s e = refl
@@ -98,6 +96,10 @@ pub longer_piece : (old piece left whole all : List ℕ) (most : ℕ) → whole 
 longer_piece old piece left whole all most cut so_far long =
     let e : old ++ piece ++ left ≡ all = append_assoc old piece left ∙ sym (ap (λ t. old ++ t) cut) ∙ so_far in
     omega (arith, ap length e, length-append (old ++ piece) left)
+
+-- a text so many times, one time less
+pub repeat_next : (n k : ℕ) (text : List ℕ) → k < n → repeat (n - k) text ≡ text ++ repeat (n - (k + 1)) text
+repeat_next n k text more = let e : n - k ≡ suc (n - (k + 1)) = omega arith in ap (λ m. repeat m text) e
 
 -- the last piece
 pub writes_last : {A : Type 0} (old at new piece all : List ℕ) (r : Result A Trouble) → at ++ piece ≡ old ++ all → Writes at new r piece → Writes old new r all

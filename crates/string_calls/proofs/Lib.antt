@@ -1,6 +1,7 @@
 pub mod Levels
 pub mod Places
 pub mod Cuts
+pub mod Characters
 pub mod Numerals
 pub mod Parting
 pub mod Known

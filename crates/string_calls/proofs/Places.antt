@@ -8,7 +8,7 @@ use Rattle.std.specs.Str.Pattern.{FindsText, MatchBeginsAt, LacksTextAt, SplitsA
 use denote.Ref.{Bor}
 use Rattle.variant_values.specs.StringMethods.{first_place, first_split, parts_after, parts, joined_texts, replaced}
 
-nat_decides : (a b : ℕ) → Decides (nat_eq a b) (a ≡ b)
+pub nat_decides : (a b : ℕ) → Decides (nat_eq a b) (a ≡ b)
 nat_decides a b = search rules
 
 -- what `starts_with` says

@@ -1,6 +1,7 @@
 // A text that is written piece by piece, up to the length of a string.
 ghost use Rattle.std.specs.Prelude.{◌≡◌, ◌≤◌, ◌++◌, [], length, codes, string_bytes, decimal, IfOk};
 ghost use Rattle.std.specs.Fmt.{signed_decimal};
+ghost use Rattle.std.specs.List.{repeat};
 ghost use Rattle.variant_values.specs.Operators.{longest};
 ghost use Rattle.variant_values.specs.ValueTexts.{truth_text, quoted};
 ghost use Rattle.string_calls.specs.Writes.{Writes};
@@ -63,6 +64,16 @@ impl StringBuilder {
     {
         self.write(first)?;
         self.write(second)
+    }
+
+    /// A text so many times.
+    pub fn write_repeated(&mut self, text: &str, n: usize) -> Result<(), Trouble>
+        ensures { Writes self.old self.new result (repeat n text.now) }
+    {
+        for _ in 0..n {
+            self.write(text)?;
+        }
+        Ok(())
     }
 
     pub fn write_truth(&mut self, b: bool) -> Result<(), Trouble>

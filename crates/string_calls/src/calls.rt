@@ -58,6 +58,7 @@ fn string_value(
         StrMethod::IsValidInt => methods::is_valid_int(of, args),
         StrMethod::ToInt => methods::to_int(of, args),
         StrMethod::UnicodeAt => methods::unicode_at(of, args),
+        // These two look at arrays, and are called elsewhere.
         StrMethod::Split | StrMethod::Join => Err(BAD_ARGS),
     }
 }
@@ -83,8 +84,8 @@ fn answer(
 /// Calls a method of a string. Places and lengths count characters. `BadArgs` where the number or a kind of the arguments is
 /// wrong, a number is negative (but a length of -1, which means the rest), `what` of `replace` or `by` of `split` is empty, a
 /// joined item is no string, or `to_int` is of no whole number of 64 bits; `BadIndex` where `unicode_at` has no such
-/// character; `TooLong` where a string would have more than 1,048,576 bytes, or an array as many items; `HeapFull` where
-/// `split` finds no room for its array, which no caller holds yet.
+/// character; `TooLong` where a string would have more than 1,048,576 bytes, or an array more items than that; `HeapFull`
+/// where `split` finds no room for its array, which no caller holds yet.
 pub fn string_call(
     alloc: Global,
     heap: &mut Heap,

@@ -1,5 +1,5 @@
 // Formats of the operator `%` on a string.
-ghost use Rattle.std.specs.Prelude.{◌≡◌, ◌≤◌, true, length, option_map, Some, IfOk, IfSome, IsCharBoundary};
+ghost use Rattle.std.specs.Prelude.{◌≡◌, ◌≤◌, ◌||◌, true, length, option_map, Some, IfOk, IfSome, IsCharBoundary};
 ghost use Rattle.variant_values.specs.ValueTexts.{is_within, items_in, most_levels, text_in};
 ghost use Rattle.variant_values.specs.Heaps.{knows, KnowsAll};
 ghost use Rattle.variant_values.specs.Operators.{Answers};
@@ -9,11 +9,12 @@ ghost use Rattle.variant_values.specs.Formats.{character_in, coded, format_resul
 
 use crate::builders::StringBuilder;
 use crate::directives::{Conversion, Directive, directive_at};
-use crate::pieces::{number_text, padded_text};
+use crate::pieces::{write_number, write_padded_text};
 use crate::searches::{begins_with, count_chars, split_first};
-use crate::texts::text_of;
+use crate::texts::text_within;
 use call_support::arguments::natural;
 use call_support::views::items;
+use call_support::walks::is_within;
 use ref_objects::heap::Heap;
 use std::alloc::{AllocError, Global};
 use std::slice;
@@ -31,10 +32,17 @@ struct Draft {
 }
 
 impl Draft {
+    /// Whether no more text is kept.
+    fn is_given_up(&self) -> bool
+        ensures { result ≡ self.now.is_deep || self.now.is_long }
+    {
+        self.is_deep || self.is_long
+    }
+
     fn add(&mut self, text: &str) -> Result<(), AllocError>
         ensures { IfOk result (λ _. Grows self.old self.new true text.now) }
     {
-        if self.is_long {
+        if self.is_given_up() {
             return Ok(());
         }
         match self.out.write(text) {
@@ -47,7 +55,24 @@ impl Draft {
         }
     }
 
-    /// The text of a value.
+    fn add_padded(&mut self, d: &Directive, text: &str) -> Result<(), AllocError>
+        ensures { IfOk result (λ _. Grows self.old self.new true (padded_text (directive_of d.now) text.now)) }
+    {
+        if self.is_given_up() {
+            return Ok(());
+        }
+        match write_padded_text(&mut self.out, d, text) {
+            Ok(()) => Ok(()),
+            Err(Trouble::Fault(_)) => {
+                self.is_long = true;
+                Ok(())
+            }
+            Err(Trouble::NoMemory) => Err(AllocError),
+        }
+    }
+
+    /// The text of a value. It is built only where it can still be of use, and its walk counted only where no other went too
+    /// deep.
     fn add_text(
         &mut self,
         alloc: Global,
@@ -59,15 +84,18 @@ impl Draft {
         requires { knows heap.now.cells v.now ≡ true }
         ensures { IfOk result (λ _. Grows self.old self.new (is_within (items_in most_levels heap.now.cells v.now)) (padded_text (directive_of d.now) (text_in most_levels heap.now.cells names.now v.now))) }
     {
-        match text_of(alloc, heap, v, names) {
-            Ok(text) => {
-                let padded = padded_text(alloc, d, text.as_str())?;
-                self.add(padded.as_str())
-            }
-            Err(Trouble::Fault(RunFault::TooDeep)) => {
-                self.is_deep = true;
-                Ok(())
-            }
+        if self.is_deep {
+            return Ok(());
+        }
+        if !is_within(heap, v) {
+            self.is_deep = true;
+            return Ok(());
+        }
+        if self.is_long {
+            return Ok(());
+        }
+        match text_within(alloc, heap, v, names) {
+            Ok(text) => self.add_padded(d, text.as_str()),
             Err(Trouble::Fault(_)) => {
                 self.is_long = true;
                 Ok(())
@@ -81,8 +109,7 @@ impl Draft {
     {
         match character_in(alloc, v)? {
             Some(text) => {
-                let padded = padded_text(alloc, d, text.as_str())?;
-                self.add(padded.as_str())?;
+                self.add_padded(d, text.as_str())?;
                 Ok(true)
             }
             None => Ok(false),
@@ -92,8 +119,17 @@ impl Draft {
     fn add_int(&mut self, alloc: Global, d: &Directive, n: i64) -> Result<(), AllocError>
         ensures { IfOk result (λ _. Fills self.old self.new true (plain (Some (number_text (directive_of d.now) n)))) }
     {
-        let text = number_text(alloc, d, n)?;
-        self.add(text.as_str())
+        if self.is_given_up() {
+            return Ok(());
+        }
+        match write_number(alloc, &mut self.out, d, n) {
+            Ok(()) => Ok(()),
+            Err(Trouble::Fault(_)) => {
+                self.is_long = true;
+                Ok(())
+            }
+            Err(Trouble::NoMemory) => Err(AllocError),
+        }
     }
 
     fn add_number(&mut self, alloc: Global, d: &Directive, v: &Value) -> Result<bool, AllocError>
@@ -126,10 +162,8 @@ impl Draft {
                 Ok(true)
             }
             Conversion::Character => self.add_character(alloc, d, v),
-            Conversion::Decimal => self.add_number(alloc, d, v),
-            Conversion::LowerHex => self.add_number(alloc, d, v),
-            Conversion::UpperHex => self.add_number(alloc, d, v),
-            Conversion::Octal => self.add_number(alloc, d, v),
+            Conversion::Decimal | Conversion::LowerHex | Conversion::UpperHex | Conversion::Octal =>
+                self.add_number(alloc, d, v),
         }
     }
 

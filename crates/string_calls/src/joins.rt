@@ -17,6 +17,7 @@ use ref_objects::heap::Heap;
 use std::alloc::Global;
 use variant_values::cells::Values;
 use variant_values::faults::{RunFault, Trouble};
+use variant_values::operators::LONGEST_STRING;
 use variant_values::texts::Str;
 use variant_values::values::Value;
 
@@ -124,10 +125,13 @@ pub fn replace(alloc: Global, of: &Str, args: &[Value]) -> Result<Value, Trouble
     replaced(alloc, of.as_str(), what.as_str(), with.as_str())
 }
 
-/// A string more, where the array has room.
+/// A string more, where the part is not too long and the array has room.
 fn push_part(alloc: Global, found: &mut Values, part: &str) -> Result<(), Trouble>
     ensures { PushesPart found.old found.new result part.now }
 {
+    if part.len() > LONGEST_STRING {
+        return Err(Trouble::Fault(RunFault::TooLong));
+    }
     if found.len() as u64 >= MOST_ITEMS {
         return Err(Trouble::Fault(RunFault::TooLong));
     }
@@ -136,7 +140,7 @@ fn push_part(alloc: Global, found: &mut Values, part: &str) -> Result<(), Troubl
     Ok(())
 }
 
-/// The parts of a text between the places of another, as many as an array may have.
+/// The parts of a text between the places of another, as long as strings may be and as many as an array may have.
 pub fn parts(alloc: Global, text: &str, by: &str) -> Result<Values, Trouble>
     requires { 0 < length by.now }
     ensures { FindsParts result (parts by.now text.now) }

@@ -9,6 +9,8 @@ mod edges;
 mod format_tests;
 pub mod formats;
 mod joins;
+#[cfg(test)]
+mod limit_tests;
 mod methods;
 mod pieces;
 mod searches;
@@ -19,3 +21,7 @@ mod text_tests;
 pub mod texts;
 #[cfg(test)]
 mod worlds;
+
+pub use calls::string_call;
+pub use formats::format_text;
+pub use texts::text_of;

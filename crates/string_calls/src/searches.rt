@@ -1,7 +1,7 @@
 // Places in texts, and texts cut at places.
 ghost use Rattle.std.specs.Prelude.{◌≡◌, ◌≤◌, ◌+◌, length, take, drop, chars, IsCharBoundary, IsUtf8, IfSome, nat_eq, option_map, slice_get};
 ghost use Rattle.std.specs.List.{starts_with, ends_with};
-ghost use Rattle.variant_values.specs.StringMethods.{first_place, first_split, spelled, place_from, chars_before, char_at};
+ghost use Rattle.variant_values.specs.StringMethods.{first_place, first_split, spelled, place_from, char_at};
 
 use call_support::arguments::natural;
 use memchr::memmem;
@@ -45,7 +45,21 @@ pub fn first_place(text: &str, what: &str) -> Option<usize>
     memmem::find(text.as_bytes(), what.as_bytes())
 }
 
-/// The place in characters where a text first stands in another, from a place on.
+/// The place in characters where a text first stands in another.
+fn first_character(text: &str, what: &str) -> Option<usize>
+    ensures place { result ≡ first_place (chars what.now) (chars text.now) }
+    ensures within { IfSome result (λ n. n ≤ length text.now) }
+{
+    match first_place(text, what) {
+        Some(place) => {
+            let (before, _) = text.split_at(place);
+            Some(count_chars(before))
+        }
+        None => None,
+    }
+}
+
+/// The same from a place on.
 pub fn place_from(text: &str, what: &str, from: usize) -> Option<usize>
     ensures place { result ≡ place_from what.now from text.now }
     ensures within { IfSome result (λ n. n ≤ length text.now) }
@@ -54,9 +68,10 @@ pub fn place_from(text: &str, what: &str, from: usize) -> Option<usize>
         return None;
     }
     let (_, rest) = split_chars(text, from);
-    let place = first_place(rest, what)?;
-    let (before, _) = rest.split_at(place);
-    Some(from + count_chars(before))
+    match first_character(rest, what) {
+        Some(place) => Some(from + place),
+        None => None,
+    }
 }
 
 fn nth_char(text: &str, n: usize) -> Option<char>

@@ -10,7 +10,7 @@ use variant_values::string_methods::StrMethod;
 use variant_values::texts::Str;
 use variant_values::values::{Key, Serial, Value};
 
-fn text(rt: &impl AllocGlobal, text: &str) -> Result<Value, Fail> {
+pub fn text(rt: &impl AllocGlobal, text: &str) -> Result<Value, Fail> {
     Ok(Value::Str(Str::new(rt.alloc(), text)?))
 }
 
@@ -39,7 +39,7 @@ fn fault_of(
     match text_of(rt.alloc(), &world.heap, v, &names) {
         Ok(_) => Ok(None),
         Err(Trouble::Fault(fault)) => Ok(Some(fault)),
-        Err(Trouble::NoMemory) => Err(Fail::from(RunFault::OutputFull)),
+        Err(Trouble::NoMemory) => Err(Fail::from(Trouble::NoMemory)),
     }
 }
 
@@ -102,6 +102,18 @@ fn containers_show_their_items(rt: HostRuntime) -> Result<(), Fail> {
 }
 
 #[test]
+fn quotes_are_not_escaped(rt: HostRuntime) -> Result<(), Fail> {
+    let mut world = World::new(rt.alloc())?;
+    let item = text(&rt, "a\"b")?;
+    let array = world.add_around(&rt, item)?;
+    shows(&rt, &world, &array, "[\"a\"b\"]")?;
+    let dict = world.add_dict(&rt)?;
+    let key = Key::Str(Str::new(rt.alloc(), "\"")?);
+    world.put_entry(&rt, dict, key, Value::Null)?;
+    shows(&rt, &world, &Value::Dict(dict), "{ \"\"\": <null> }")
+}
+
+#[test]
 fn objects_show_whether_they_live(rt: HostRuntime) -> Result<(), Fail> {
     let mut world = World::new(rt.alloc())?;
     let lamp = world.add_lamp(&rt)?;
@@ -145,6 +157,46 @@ fn a_cycle_is_too_deep(rt: HostRuntime) -> Result<(), Fail> {
     Ok(())
 }
 
+/// A dictionary around a dictionary, so many levels deep.
+fn nested_dicts(
+    rt: &(impl Abort + AllocGlobal),
+    world: &mut World,
+    levels: u32,
+) -> Result<Serial, Fail> {
+    let mut inner = world.add_dict(rt)?;
+    for _ in 1..levels {
+        let outer = world.add_dict(rt)?;
+        world.put_entry(rt, outer, Key::Int(0), Value::Dict(inner))?;
+        inner = outer;
+    }
+    Ok(inner)
+}
+
+#[test]
+fn a_text_opens_64_levels_of_dictionaries(rt: HostRuntime) -> Result<(), Fail> {
+    let mut world = World::new(rt.alloc())?;
+    let levels = nested_dicts(&rt, &mut world, 64)?;
+    let v = Value::Dict(levels);
+    assert_eq!(rt; fault_of(&rt, &world, &v)?, None);
+    let deeper = world.add_around(&rt, v)?;
+    assert_eq!(rt; fault_of(&rt, &world, &deeper)?, Some(RunFault::TooDeep));
+    let levels = nested_dicts(&rt, &mut world, 65)?;
+    let v = Value::Dict(levels);
+    assert_eq!(rt; fault_of(&rt, &world, &v)?, Some(RunFault::TooDeep));
+    Ok(())
+}
+
+#[test]
+fn a_cycle_through_a_dictionary_is_too_deep(rt: HostRuntime) -> Result<(), Fail> {
+    let mut world = World::new(rt.alloc())?;
+    let dict = world.add_dict(&rt)?;
+    let around = world.add_around(&rt, Value::Dict(dict))?;
+    world.put_entry(&rt, dict, Key::Int(0), around)?;
+    let v = Value::Dict(dict);
+    assert_eq!(rt; fault_of(&rt, &world, &v)?, Some(RunFault::TooDeep));
+    Ok(())
+}
+
 /// An array of so many times one item.
 fn many(
     rt: &(impl Abort + AllocGlobal),
@@ -163,12 +215,12 @@ fn many(
 fn rows(
     rt: &(impl Abort + AllocGlobal),
     world: &mut World,
-    row: Serial,
+    row: &Value,
     count: u32,
 ) -> Result<Value, Fail> {
     let mut items = Vec::new(rt.alloc());
     for _ in 0..count {
-        items.push(Value::Array(row))?;
+        items.push(row.clone()?)?;
     }
     world.add_array(rt, items)
 }
@@ -177,11 +229,8 @@ fn rows(
 fn a_text_comes_to_a_million_items(rt: HostRuntime) -> Result<(), Fail> {
     let mut world = World::new(rt.alloc())?;
     let row = many(&rt, &mut world, 0, 1023)?;
-    let Value::Array(row) = &row else {
-        return Err(Fail::from(RunFault::BadType));
-    };
     // 1,024 rows with 1,023 items each.
-    let all = rows(&rt, &mut world, *row, 1024)?;
+    let all = rows(&rt, &mut world, &row, 1024)?;
     assert_eq!(rt; fault_of(&rt, &world, &all)?, Some(RunFault::TooLong));
     if let Value::Array(s) = &all {
         world.put_first(&rt, *s, Value::Null)?;
@@ -191,16 +240,27 @@ fn a_text_comes_to_a_million_items(rt: HostRuntime) -> Result<(), Fail> {
 }
 
 /// The text of what a method gives, with one argument. The heap goes with it.
-fn text_of_call(
+pub fn text_of_call(
     rt: &(impl Abort + AllocGlobal),
     world: World,
     method: StrMethod,
     of: &str,
     arg: Value,
 ) -> Result<Str, Trouble> {
-    let of = Str::new(rt.alloc(), of)?;
     let mut args = Vec::new(rt.alloc());
     args.push(arg)?;
+    text_with(rt, world, method, of, args)
+}
+
+/// The same, with any arguments.
+pub fn text_with(
+    rt: &(impl Abort + AllocGlobal),
+    world: World,
+    method: StrMethod,
+    of: &str,
+    args: Vec<Value>,
+) -> Result<Str, Trouble> {
+    let of = Str::new(rt.alloc(), of)?;
     assert!(rt; world.knows_all(args.as_slice()));
     let mut heap = world.heap;
     let v = string_call(rt.alloc(), &mut heap, method, &of, args.as_slice())?;
@@ -264,23 +324,8 @@ fn join_puts_itself_between(rt: HostRuntime) -> Result<(), Fail> {
     Ok(())
 }
 
-#[test]
-fn parts_are_too_many(rt: HostRuntime) -> Result<(), Fail> {
-    let commas = text_of_call(
-        &rt,
-        World::new(rt.alloc())?,
-        StrMethod::Repeat,
-        ",",
-        Value::Int(1_048_576),
-    )?;
-    let comma = text(&rt, ",")?;
-    let world = World::new(rt.alloc())?;
-    let refused = text_of_call(&rt, world, StrMethod::Split, commas.as_str(), comma);
-    assert!(rt; matches!(refused, Err(Trouble::Fault(RunFault::TooLong))));
-    Ok(())
-}
-
-fn long_text(rt: &(impl Abort + AllocGlobal), count: i64) -> Result<Str, Fail> {
+/// So many times `a`.
+pub fn long_text(rt: &(impl Abort + AllocGlobal), count: i64) -> Result<Str, Fail> {
     let world = World::new(rt.alloc())?;
     Ok(text_of_call(rt, world, StrMethod::Repeat, "a", Value::Int(count))?)
 }

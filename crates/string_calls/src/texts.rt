@@ -232,7 +232,6 @@ fn fitting(text: &Str) -> Result<Str, Trouble>
     Ok(text.clone()?)
 }
 
-/// The text of a value whose walk stays within the limits.
 fn built_text(alloc: Global, heap: &Heap, v: &Value, names: &ClassNames) -> Result<Str, Trouble>
     requires { knows heap.now.cells v.now ≡ true }
     ensures { Answers result (fitting (text_in most_levels heap.now.cells names.now v.now)) }
@@ -240,6 +239,22 @@ fn built_text(alloc: Global, heap: &Heap, v: &Value, names: &ClassNames) -> Resu
     let mut out = StringBuilder::new(alloc);
     write_value(&mut out, heap, v, names, MOST_LEVELS)?;
     Ok(out.finish()?)
+}
+
+/// The text of a value whose walk stays within the limits.
+pub fn text_within(
+    alloc: Global,
+    heap: &Heap,
+    v: &Value,
+    names: &ClassNames,
+) -> Result<Str, Trouble>
+    requires { knows heap.now.cells v.now ≡ true }
+    ensures { Answers result (fitting (text_in most_levels heap.now.cells names.now v.now)) }
+{
+    match v {
+        Value::Str(text) => fitting(text),
+        _ => built_text(alloc, heap, v, names),
+    }
 }
 
 /// The text of a value, as `str` and `print` show it. `TooDeep` where it would open a container below the 64th level or
@@ -251,8 +266,5 @@ pub fn text_of(alloc: Global, heap: &Heap, v: &Value, names: &ClassNames) -> Res
     if !is_within(heap, v) {
         return Err(Trouble::Fault(RunFault::TooDeep));
     }
-    match v {
-        Value::Str(text) => fitting(text),
-        _ => built_text(alloc, heap, v, names),
-    }
+    text_within(alloc, heap, v, names)
 }

@@ -7,3 +7,4 @@ pub mod Once
 pub mod Rounds
 pub mod Holds
 pub mod Lasting
+pub mod Freed

@@ -12,6 +12,7 @@ use Rattle.variant_values.specs.declared.values.Serial.{Serial}
 use Rattle.variant_values.specs.declared.values.Value.{Value}
 use Rattle.variant_values.specs.declared.values.Value.TheVariants.{Array, Dict}
 use Rattle.variant_values.specs.Heaps.{Heap, knows, with_new}
+use Rattle.variant_values.specs.Operators.{most_items}
 use Rattle.variant_values.specs.Places.{weight, cell_weight}
 
 abbrev pub Given : Type 0
@@ -46,7 +47,7 @@ placed h v = if nat_le (weight h.cells) 67108864 && nat_le (length h.cells) (2 ^
 
 -- what is given, where a container has no more than the most items
 abbrev pub counted : {A : Type 0} → ℕ → Result (A × Heap) RunFault → Result (A × Heap) RunFault
-counted n given = if nat_le n 1048576 then given else Err TooLong
+counted n given = if nat_le n most_items then given else Err TooLong
 
 abbrev pub next_serial : Heap → Serial
 next_serial h = record { 0 = length h.cells }

@@ -11,7 +11,8 @@ use Rattle.variant_values.specs.declared.values.Value.{Value}
 use Rattle.variant_values.specs.declared.values.Value.TheVariants.{Null, Bool as Truth, Int, Str, Array, Dict, Object, Callable, Signal, Class, Scene, Weak}
 use Rattle.variant_values.specs.Heaps.{cell_at, is_living, items_of, entries_of}
 use Rattle.variant_values.specs.Keys.{same_key}
-use Rattle.variant_values.specs.Operators.{equal}
+use Rattle.variant_values.specs.Operators.{equal, most_items}
+use Rattle.variant_values.specs.ValueTexts.{most_levels}
 
 -- false are null, false, 0, the empty text, an empty container, and an object that has gone
 abbrev pub is_true : List (Option Cell) → Value → Bool
@@ -85,7 +86,7 @@ verdict (Err fault) = Err fault
 
 -- whether two values are of one kind and equal, by a whole walk: 64 levels, 1,048,576 items
 unfoldable pub same_value : List (Option Cell) → Value → Value → Result Bool RunFault
-same_value cells v w = verdict (same_at cells 64 v w 1048576)
+same_value cells v w = verdict (same_at cells most_levels v w most_items)
 
 abbrev pub or_refused : Option Bool → Result Bool RunFault
 or_refused None = Err BadOperands

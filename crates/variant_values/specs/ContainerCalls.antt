@@ -1,5 +1,5 @@
 -- Calls of the methods of arrays and dictionaries, by their arguments.
-use Rattle.std.specs.Prelude.{◌≡◌, ℕ, ℤ, Bool, false, if◌then◌else◌, List, [], ◌∷◌, Option, Some, None, option_map, Result, Err}
+use Rattle.std.specs.Prelude.{ℕ, ℤ, Bool, false, if◌then◌else◌, List, [], ◌∷◌, Option, Some, None, option_map, Result, Err}
 use Rattle.variant_values.specs.declared.container_methods.ArrayMethod.{ArrayMethod}
 use Rattle.variant_values.specs.declared.container_methods.ArrayMethod.TheVariants.{Size, IsEmpty, Append, PushBack, PushFront, PopBack, PopFront, Front, Back, Insert, RemoveAt, Erase, Clear, Has, Find, Count, Slice, Reverse, Sort, Duplicate, AppendArray, Resize, Fill}
 use Rattle.variant_values.specs.declared.container_methods.DictMethod.{DictMethod}
@@ -10,7 +10,7 @@ use Rattle.variant_values.specs.declared.values.Serial.{Serial}
 use Rattle.variant_values.specs.declared.values.Value.{Value}
 use Rattle.variant_values.specs.declared.values.Value.TheVariants.{Null, Bool as Truth, Dict}
 use Rattle.variant_values.specs.Heaps.{Heap}
-use Rattle.variant_values.specs.Operators.{Outcome, key_of}
+use Rattle.variant_values.specs.Operators.{key_of}
 use Rattle.variant_values.specs.StringMethods.{array_in, int_in, is_none_given, one_given, one_or_two_given, two_given, with_given}
 use Rattle.variant_values.specs.Changes.{Given, looked}
 use Rattle.variant_values.specs.ArrayMethods.{append_array_of, append_of, back_of, clear_of, count_of, emptiness_of, erase_of, fill_of, find_of, front_of, has_of, insert_of, items_at, pop_back_of, pop_front_of, push_front_of, remove_at_of, reverse_of, size_of, slice_from_of, slice_of, sort_of}

@@ -6,7 +6,7 @@ use Rattle.variant_values.specs.declared.faults.RunFault.TheVariants.{TooDeep}
 use Rattle.variant_values.specs.declared.values.Key.{Key}
 use Rattle.variant_values.specs.declared.values.Serial.{Serial}
 use Rattle.variant_values.specs.declared.values.Value.{Value}
-use Rattle.variant_values.specs.declared.values.Value.TheVariants.{Null, Bool as Truth, Int, Str, Array, Dict, Object, Callable, Signal, Class, Scene, Weak}
+use Rattle.variant_values.specs.declared.values.Value.TheVariants.{Array, Dict}
 use Rattle.variant_values.specs.Heaps.{Heap, cell_at, items_of, entries_of, with_new}
 use Rattle.variant_values.specs.Changes.{Given, next_serial, placed}
 use Rattle.variant_values.specs.ElementTypes.{element_of}
@@ -43,7 +43,7 @@ copied_with arrays dicts h (Dict s) = dicts s
 copied_with arrays dicts h v = (v, h)
 
 -- A value copied with so many levels of containers, and the heap then: a container is a new one each time the walk comes to
--- it, made after those inside it, and of the same element type. A container that stands deeper is left out; a copy of a
+-- it, made after those inside it, and of the same element type. A container that stands deeper stays as it is; a copy of a
 -- value that has such a one is refused.
 unfoldable pub copied : ℕ → Heap → Value → Value × Heap
 copied zero h v = (v, h)

@@ -1,12 +1,12 @@
 -- Formats of the operator `%`, after the Godot manual's "GDScript format strings".
-use Rattle.std.specs.Prelude.{ℕ, zero, suc, ◌+◌, ◌-◌, ℤ, unsigned_abs, int_lt, pos, Bool, true, false, ◌&&◌, ◌||◌, ◌==◌, nat_le, List, [], ◌∷◌, ◌++◌, length, take, drop, chars, encode_utf8, if◌then◌else◌, Option, Some, None, option_map, Result, Ok, Err}
+use Rattle.std.specs.Prelude.{ℕ, zero, suc, ◌+◌, ◌-◌, ℤ, unsigned_abs, int_lt, pos, Bool, true, false, ◌&&◌, ◌||◌, ◌==◌, nat_le, List, [], ◌∷◌, ◌++◌, length, take, drop, chars, encode_utf8, if◌then◌else◌, Option, Some, None, option_map, Result, Err}
 use Rattle.std.specs.List.{list_any, prefix_len, repeat}
 use Rattle.std.specs.Fmt.{digits}
 use Rattle.std.specs.Char.{is_ascii_digit}
 use Rattle.std.specs.Str.{all_scalars}
 use Rattle.std.specs.Str.Parse.{digits_value}
 use Rattle.variant_values.specs.declared.values.Value.{Value}
-use Rattle.variant_values.specs.declared.values.Value.TheVariants.{Null, Bool as Truth, Int, Str, Array, Dict, Object, Callable, Signal, Class, Scene, Weak}
+use Rattle.variant_values.specs.declared.values.Value.TheVariants.{Int, Str, Array}
 use Rattle.variant_values.specs.declared.cells.Cell.{Cell}
 use Rattle.variant_values.specs.declared.faults.RunFault.{RunFault}
 use Rattle.variant_values.specs.declared.faults.RunFault.TheVariants.{BadFormat, TooDeep}

@@ -1,18 +1,18 @@
 -- Keys of a dictionary, and its entries as a list of pairs.
-use Rattle.std.specs.Prelude.{◌≡◌, Bool, false, cond, nat_eq, List, [], ◌∷◌, Option, None}
+use Rattle.std.specs.Prelude.{◌≡◌, Bool, false, cond, nat_eq, List, [], ◌∷◌, None}
 use mathlib.Core.Bool.{beq}
 use Rattle.std.specs.Ordering.{int_eq}
-use Rattle.std.specs.Cmp.Lexicographic.{pointwise}
 use Rattle.std.specs.Map.{lookup}
 use Rattle.variant_values.specs.declared.values.Key.{Key}
 use Rattle.variant_values.specs.declared.values.Key.TheVariants.{Bool as KeyTruth, Int as KeyInt, Str as KeyStr, Object as KeyObject}
 use Rattle.variant_values.specs.declared.values.Value.{Value}
+use Rattle.variant_values.specs.Operators.{same_text}
 
 -- when two keys are one
 abbrev pub same_key : Key → Key → Bool
 same_key (KeyTruth a) (KeyTruth b) = beq a b
 same_key (KeyInt a) (KeyInt b) = int_eq a b
-same_key (KeyStr a) (KeyStr b) = pointwise nat_eq a b
+same_key (KeyStr a) (KeyStr b) = same_text a b
 same_key (KeyObject a) (KeyObject b) = nat_eq a.0 b.0
 same_key _ _ = false
 

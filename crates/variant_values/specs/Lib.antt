@@ -1,4 +1,5 @@
 pub mod Classes
+pub mod Faults
 pub mod Keys
 pub mod Places
 pub mod Heaps

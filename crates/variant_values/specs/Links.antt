@@ -1,12 +1,12 @@
 -- The connections of objects.
 use Rattle.std.specs.Prelude.{ℕ, Bool, not, cond, nat_eq, ◌&&◌, List, [], ◌∷◌, ◌++◌, length, filter, Option, Some, None}
 use Rattle.std.specs.List.{sum_by}
-use Rattle.std.specs.Cmp.Lexicographic.{pointwise}
 use Rattle.variant_values.specs.declared.values.Serial.{Serial}
 use Rattle.variant_values.specs.declared.cells.Connection.{Connection}
 use Rattle.variant_values.specs.declared.cells.Cell.{Cell}
 use Rattle.variant_values.specs.declared.cells.Cell.TheVariants.{Array as ArrayCell, Dict as DictCell, Object as ObjectCell}
 use Rattle.variant_values.specs.Heaps.{Heap, cell_at, with_cell}
+use Rattle.variant_values.specs.Operators.{same_text}
 
 abbrev pub connections_of : Option Cell → List Connection
 connections_of None = []
@@ -27,7 +27,7 @@ connections_in cells = sum_by (λ s. length (connections_of s)) cells
 
 -- whether a connection is that of the signal to the method of the object
 abbrev pub is_connection : List ℕ → Serial → List ℕ → Connection → Bool
-is_connection signal to method c = pointwise nat_eq c.signal signal && (nat_eq c.target.0 to.0 && pointwise nat_eq c.method method)
+is_connection signal to method c = same_text c.signal signal && (nat_eq c.target.0 to.0 && same_text c.method method)
 
 -- the heap with a connection more, the object's last
 abbrev pub connected : Heap → ℕ → Connection → Heap
@@ -40,4 +40,4 @@ disconnected h from signal to method = with_cell h from (connections_put (filter
 -- the targets of a signal and their methods, in order
 abbrev pub targets_of : List ℕ → List Connection → List (Serial × List ℕ)
 targets_of signal [] = []
-targets_of signal (c ∷ cs) = cond (pointwise nat_eq c.signal signal) ((c.target, c.method) ∷ targets_of signal cs) (targets_of signal cs)
+targets_of signal (c ∷ cs) = cond (same_text c.signal signal) ((c.target, c.method) ∷ targets_of signal cs) (targets_of signal cs)

@@ -1,6 +1,6 @@
 -- The operators on values that stand in no cell, after the Godot manual's "GDScript reference", "Operators". Whole
 -- numbers have 64 bits and wrap around.
-use Rattle.std.specs.Prelude.{◌≡◌, ℕ, ◌+◌, ℤ, pos, ◌+ℤ◌, ◌-ℤ◌, ◌*ℤ◌, Bool, true, false, not, ◌&&◌, nat_eq, nat_le, nat_lt, if◌then◌else◌, List, ◌++◌, length, option_map, Option, Some, None, Result, Ok, Err, ◌⊎◌}
+use Rattle.std.specs.Prelude.{◌≡◌, ℕ, ◌+◌, ℤ, pos, ◌+ℤ◌, ◌-ℤ◌, ◌*ℤ◌, Bool, true, false, not, ◌&&◌, nat_eq, nat_le, if◌then◌else◌, List, ◌++◌, length, option_map, Option, Some, None, Result, Ok, Err}
 use mathlib.Core.Bool.{beq}
 use Rattle.std.specs.Int.{int_wrap, int_wrapping_div, int_shl, int_shr, int_bit_and, int_bit_xor, int_bit_or, int_bit_not, int_wrapping_neg, w64}
 use Rattle.std.specs.Int.RustNames.{int_rem, int_lt, unsigned_abs}
@@ -28,6 +28,10 @@ Outcome = Result Value RunFault
 -- the bytes that a string may have
 abbrev pub longest : ℕ
 longest = 1048576
+
+-- the items that an array may have, the entries that a dictionary may have, and the items that a walk of a value may come to
+abbrev pub most_items : ℕ
+most_items = 1048576
 
 abbrev pub truth_of : Bool → Outcome
 truth_of b = Ok (Truth b)

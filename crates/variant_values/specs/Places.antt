@@ -30,7 +30,7 @@ key_place (KeyInt n) = 0
 key_place (KeyStr s) = 0
 key_place (KeyObject s) = s.0
 
--- 1 at the cell that stands at the place, else 0
+-- 1 where the serial that a place holds is x, else 0
 abbrev pub one_at : ℕ → ℕ → ℕ
 one_at x place = cond (nat_eq place x) 1 0
 

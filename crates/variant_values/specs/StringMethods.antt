@@ -1,6 +1,6 @@
 -- The methods of a string, after the Godot manual's "String". A text is seen as its bytes in UTF-8; places and lengths
 -- count characters.
-use Rattle.std.specs.Prelude.{ℕ, zero, suc, ◌+◌, ◌-◌, ◌^◌, ℤ, pos, negsuc, Bool, true, false, not, nat_le, nat_lt, nat_eq, ◌&&◌, ◌==◌, List, [], ◌∷◌, ◌++◌, length, take, drop, map, slice_get, if◌then◌else◌, Option, Some, None, is_some, option_map, Result, Ok, Err, chars, encode_utf8_all}
+use Rattle.std.specs.Prelude.{ℕ, zero, suc, ◌+◌, ◌-◌, ◌^◌, ℤ, pos, negsuc, Bool, true, false, not, nat_le, nat_lt, nat_eq, ◌&&◌, ◌==◌, List, [], ◌∷◌, length, take, drop, map, slice_get, if◌then◌else◌, Option, Some, None, is_some, option_map, Result, Ok, Err, chars, encode_utf8_all}
 use Rattle.std.specs.List.{starts_with, ends_with, onto_first, join_by, repeat, list_all}
 use Rattle.std.specs.Char.{to_ascii_uppercase, to_ascii_lowercase}
 use Rattle.std.specs.Str.{all_ascii_digits}
@@ -10,13 +10,13 @@ use Rattle.variant_values.specs.declared.values.Value.{Value}
 use Rattle.variant_values.specs.declared.values.Value.TheVariants.{Int, Str, Array}
 use Rattle.variant_values.specs.declared.cells.Cell.{Cell}
 use Rattle.variant_values.specs.declared.faults.RunFault.{RunFault}
-use Rattle.variant_values.specs.declared.faults.RunFault.TheVariants.{BadArgs, BadIndex}
+use Rattle.variant_values.specs.declared.faults.RunFault.TheVariants.{BadArgs, BadIndex, TooLong}
 use Rattle.variant_values.specs.declared.string_methods.StrMethod.{StrMethod}
 use Rattle.variant_values.specs.declared.string_methods.StrMethod.TheVariants.{Length, IsEmpty, Substr, Left, Right, Find, Contains, BeginsWith, EndsWith, Replace, Split, Join, Repeat, ToUpper, ToLower, StripEdges, IsValidInt, ToInt, UnicodeAt}
 use Rattle.variant_values.specs.Changes.{Given, counted, looked, new_array}
 use Rattle.variant_values.specs.Heaps.{Heap, cell_at, items_of}
 use Rattle.variant_values.specs.Operators.{Outcome, truth_of, number_of, is_text}
-use Rattle.variant_values.specs.ValueTexts.{fitting}
+use Rattle.variant_values.specs.ValueTexts.{fits_string, fitting}
 
 -- ---- arguments
 
@@ -110,20 +110,15 @@ span_at from (Some n) cs = take n (drop from cs)
 abbrev pub last_chars : ℕ → List ℕ → List ℕ
 last_chars n cs = drop (length cs - n) cs
 
--- The place where a text first stands in another, by bytes. In UTF-8 its bytes stand where its characters do.
+-- the place where a list first stands in another
 abbrev pub first_place : List ℕ → List ℕ → Option ℕ
 first_place what [] = if starts_with nat_eq [] what then Some 0 else None
 first_place what (b ∷ bs) = if starts_with nat_eq (b ∷ bs) what then Some 0 else option_map (λ n. suc n) (first_place what bs)
 
--- the characters before a place of a text
-abbrev pub chars_before : List ℕ → ℕ → ℕ
-chars_before text place = length (chars (take place text))
-
 -- the place in characters from a place on, and none past the end
 abbrev pub place_from : List ℕ → ℕ → List ℕ → Option ℕ
 place_from what from text =
-    let rest = spelled (drop from (chars text)) in
-    if nat_le from (length (chars text)) then option_map (λ place. from + chars_before rest place) (first_place what rest) else None
+    if nat_le from (length (chars text)) then option_map (λ n. from + n) (first_place (chars what) (drop from (chars text))) else None
 
 abbrev pub place_number : Option ℕ → ℤ
 place_number None = negsuc 0
@@ -211,6 +206,7 @@ string_value StripEdges text args = if is_none_given args then made (without_bac
 string_value IsValidInt text args = if is_none_given args then truth_of (is_whole_number text) else Err BadArgs
 string_value ToInt text args = if is_none_given args then int_result (whole_number text) else Err BadArgs
 string_value UnicodeAt text args = with_given (one_given int_in args) (λ i. code_point (char_at (chars text) i))
+-- these two look at arrays, and have definitions of their own
 string_value Split text args = Err BadArgs
 string_value Join text args = Err BadArgs
 
@@ -225,8 +221,9 @@ join_items separator items = if list_all is_text items then made (join_by plain_
 abbrev pub join_value : List (Option Cell) → List ℕ → List Value → Outcome
 join_value cells text args = with_given (one_given array_in args) (λ s. join_items text (items_of (cell_at cells s.0)))
 
+-- parts of a text, each no longer than a string may be, in a new array
 abbrev pub split_array : Heap → List (List ℕ) → Given
-split_array h texts = counted (length texts) (new_array h (map (λ t. Str t) texts) None)
+split_array h texts = if list_all fits_string texts then counted (length texts) (new_array h (map (λ t. Str t) texts) None) else Err TooLong
 
 abbrev pub split_call : Heap → List ℕ → List Value → Given
 split_call h text args = with_given (one_given string_in args) (λ by. if length by == 0 then Err BadArgs else split_array h (parts by text))

@@ -25,13 +25,6 @@ parent_in (Some n) = n.parent
 abbrev pub parent_of : Option Cell → Option Serial
 parent_of s = parent_in (node_of s)
 
-abbrev pub children_in : Option NodePart → List Serial
-children_in None = []
-children_in (Some n) = n.children
-
-abbrev pub children_of : Option Cell → List Serial
-children_of s = children_in (node_of s)
-
 -- the cell with its node part changed, where it is a node
 abbrev pub node_put : (NodePart → NodePart) → Option Cell → Option Cell
 node_put f None = None

@@ -9,12 +9,12 @@ use Rattle.variant_values.specs.declared.values.Value.TheVariants.{Null, Bool as
 use Rattle.variant_values.specs.declared.values.Key.{Key}
 use Rattle.variant_values.specs.declared.values.Key.TheVariants.{Bool as KeyTruth, Int as KeyInt, Str as KeyStr, Object as KeyObject}
 use Rattle.variant_values.specs.declared.cells.Cell.{Cell}
-use Rattle.variant_values.specs.declared.cells.Cell.TheVariants.{Array as ArrayCell, Dict as DictCell, Object as ObjectCell}
+use Rattle.variant_values.specs.declared.cells.Cell.TheVariants.{Object as ObjectCell}
 use Rattle.variant_values.specs.declared.faults.RunFault.{RunFault}
 use Rattle.variant_values.specs.declared.faults.RunFault.TheVariants.{TooDeep, TooLong}
 use Rattle.variant_values.specs.Classes.{class_text}
 use Rattle.variant_values.specs.Heaps.{cell_at, items_of, entries_of}
-use Rattle.variant_values.specs.Operators.{longest}
+use Rattle.variant_values.specs.Operators.{longest, most_items}
 
 -- the names of classes
 abbrev pub Names : Type 0
@@ -102,21 +102,22 @@ unfoldable pub items_in : ℕ → List (Option Cell) → Value → Option ℕ
 items_in zero cells v = count_with (λ s. None) (λ s. None) v
 items_in (suc n) cells v = count_with (λ s. count_items (items_in n cells) (items_of (cell_at cells s.0))) (λ s. count_items (λ e. items_in n cells e.1) (entries_of (cell_at cells s.0))) v
 
--- the levels of containers that a walk may open, and the items that it may come to
+-- the levels of containers that a walk may open
 abbrev pub most_levels : ℕ
 most_levels = 64
-
-abbrev pub most_items : ℕ
-most_items = 1048576
 
 -- whether a walk stays within the limits
 abbrev pub is_within : Option ℕ → Bool
 is_within None = false
 is_within (Some n) = nat_le n most_items
 
+-- whether a text is no longer than a string may be
+abbrev pub fits_string : List ℕ → Bool
+fits_string text = nat_le (length text) longest
+
 -- a string of the language, where it is no longer than one may be
 abbrev pub fitting : List ℕ → Result (List ℕ) RunFault
-fitting text = if nat_le (length text) longest then Ok text else Err TooLong
+fitting text = if fits_string text then Ok text else Err TooLong
 
 -- the text of a value: `TooDeep` where the walk passes a limit, and then `TooLong`
 abbrev pub value_text : List (Option Cell) → Names → Value → Result (List ℕ) RunFault

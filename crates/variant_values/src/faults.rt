@@ -1,4 +1,5 @@
 ghost use Rattle.std.specs.Prelude.{◌≡◌};
+ghost use Rattle.variant_values.specs.Faults.{comes_before};
 ghost use Rattle.variant_values.specs.declared.faults.Trouble.TheVariants.{Fault, NoMemory};
 
 use std::alloc::{AllocError, AllocFailed};
@@ -32,6 +33,15 @@ pub enum RunFault {
     OutputFull,
     CallTooDeep,
     AssertFailed,
+}
+
+impl RunFault {
+    /// Whether the fault comes where another applies too.
+    pub fn comes_before(self, other: RunFault) -> bool
+        ensures { result ≡ comes_before self other }
+    {
+        (self as u8) < other as u8
+    }
 }
 
 /// Why a call on values gives no answer.

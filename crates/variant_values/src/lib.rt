@@ -6,6 +6,7 @@ pub mod classes;
 pub mod container_methods;
 pub mod entries;
 pub mod faults;
+pub mod laws;
 pub mod links;
 pub mod nodes;
 #[cfg(test)]
@@ -15,3 +16,11 @@ pub mod string_methods;
 pub mod texts;
 pub mod values;
 pub mod weights;
+
+pub use classes::{ClassId, ClassNames, ClassTag, ElementTag, Lineage};
+pub use container_methods::{ArrayMethod, DictMethod};
+pub use faults::{RunFault, Trouble};
+pub use operators::{BinaryOp, UnaryOp, binary, unary};
+pub use string_methods::StrMethod;
+pub use texts::Str;
+pub use values::{Key, Serial, Value};

@@ -261,8 +261,11 @@ fn operators_before_a_value(rt: HostRuntime) -> Result<(), Fail> {
         let answer = unary(op, &Value::Int(n))?;
         assert_eq!(rt; shown(rt.alloc(), Ok(answer))?.as_str(), wanted);
     }
-    let refused = unary(UnaryOp::Neg, &Value::Bool(true));
-    assert!(rt; refused.is_err());
+    let refused = match unary(UnaryOp::Neg, &Value::Bool(true)) {
+        Ok(_) => "a value",
+        Err(fault) => fault_name(fault),
+    };
+    assert_eq!(rt; refused, "BadOperands");
     Ok(())
 }
 
@@ -279,7 +282,50 @@ fn keys(rt: HostRuntime) -> Result<(), Fail> {
         Value::Dict(Serial(1)),
         Value::Weak(Serial(1)),
     ] {
-        assert!(rt; Key::of(&value).is_err());
+        let refused = match Key::of(&value) {
+            Ok(_) => "a key",
+            Err(Trouble::Fault(fault)) => fault_name(fault),
+            Err(Trouble::NoMemory) => "NoMemory",
+        };
+        assert_eq!(rt; refused, "BadKey");
+    }
+    Ok(())
+}
+
+#[test]
+fn the_order_of_faults(rt: HostRuntime) -> Result<(), Fail> {
+    let row = [
+        RunFault::NullAccess,
+        RunFault::FreedAccess,
+        RunFault::NotCallable,
+        RunFault::NoMember,
+        RunFault::NoMethod,
+        RunFault::NoSignal,
+        RunFault::BadArgs,
+        RunFault::BadOperands,
+        RunFault::BadKey,
+        RunFault::BadIndex,
+        RunFault::ElementType,
+        RunFault::NoKey,
+        RunFault::BadFormat,
+        RunFault::BadType,
+        RunFault::NodeBusy,
+        RunFault::NoNode,
+        RunFault::AlreadyConnected,
+        RunFault::NotConnected,
+        RunFault::DivisionByZero,
+        RunFault::BadShift,
+        RunFault::TooDeep,
+        RunFault::TooLong,
+        RunFault::HeapFull,
+        RunFault::OutputFull,
+        RunFault::CallTooDeep,
+        RunFault::AssertFailed,
+    ];
+    for (i, fault) in row.iter().enumerate() {
+        for (j, other) in row.iter().enumerate() {
+            assert_eq!(rt; fault.comes_before(*other), i < j);
+        }
     }
     Ok(())
 }

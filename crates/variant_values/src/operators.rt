@@ -2,10 +2,9 @@
 ghost use Rattle.std.specs.Prelude.{◌≡◌, ◌≢◌, cond, false, not, option_map, true};
 ghost use Rattle.std.specs.Int.{int_shl, int_shr, w64};
 ghost use Rattle.variant_values.specs.Operators.{Answers, amount_of, binary_of, equal, int_binary, int_unary, joined, key_of, number_of, or_bad, other_binary, same_text, shifted, text_binary, text_order, truth_of, unary_of, is_container, is_scalar_op, is_text};
-ghost use Rattle.variant_values.specs.Classes.{same_class};
 ghost use Rattle.variant_values.specs.declared.operators.BinaryOp.TheVariants.{Add, Div, Rem};
 
-use crate::classes::ClassTag;
+use crate::classes::is_same_class;
 use crate::faults::{RunFault, Trouble};
 use crate::texts::Str;
 use crate::values::{Key, Value};
@@ -13,6 +12,9 @@ use std::alloc::{AllocError, Global};
 
 /// The most bytes that a string may have.
 pub const LONGEST_STRING: usize = 1_048_576;
+
+/// The most items of an array, and entries of a dictionary.
+pub const MOST_ITEMS: usize = 1_048_576;
 
 /// A binary operator of the language. `Within` is `in`.
 #[derive(Clone, Copy, Debug, PartialEq, Eq)]
@@ -127,7 +129,8 @@ fn joined(alloc: Global, a: &Str, b: &Str) -> Result<Value, Trouble>
     if a.len() + b.len() > LONGEST_STRING {
         return Err(Trouble::Fault(RunFault::TooLong));
     }
-    let mut text = String::from_str(alloc, a.as_str())?;
+    let mut text = String::with_capacity(alloc, a.len() + b.len())?;
+    text.push_str(a.as_str())?;
     text.push_str(b.as_str())?;
     Ok(Value::Str(Str::from_string(text)?))
 }
@@ -164,18 +167,6 @@ fn same_text(a: &Str, b: &Str) -> bool
     a.as_str() == b.as_str()
 }
 
-fn same_class(a: &ClassTag, b: &ClassTag) -> bool
-    ensures { result ≡ same_class a.now b.now }
-{
-    match (a, b) {
-        (ClassTag::Object, ClassTag::Object) => true,
-        (ClassTag::RefCounted, ClassTag::RefCounted) => true,
-        (ClassTag::Node, ClassTag::Node) => true,
-        (ClassTag::Script(a), ClassTag::Script(b)) => a.file == b.file && a.index == b.index,
-        _ => false,
-    }
-}
-
 /// Whether two values that are no containers are equal, or `None` where they cannot be compared.
 pub fn equal(a: &Value, b: &Value) -> Option<bool>
     ensures { result ≡ equal a.now b.now }
@@ -189,7 +180,7 @@ pub fn equal(a: &Value, b: &Value) -> Option<bool>
         (Value::Object(a), Value::Object(b)) => Some(a.0 == b.0),
         (Value::Callable(a, f), Value::Callable(b, g)) => Some(a.0 == b.0 && same_text(f, g)),
         (Value::Signal(a, f), Value::Signal(b, g)) => Some(a.0 == b.0 && same_text(f, g)),
-        (Value::Class(a), Value::Class(b)) => Some(same_class(a, b)),
+        (Value::Class(a), Value::Class(b)) => Some(is_same_class(a, b)),
         (Value::Scene(a, p), Value::Scene(b, q)) => Some(*a == *b && same_text(p, q)),
         (Value::Weak(a), Value::Weak(b)) => Some(a.0 == b.0),
         _ => None,
@@ -225,8 +216,8 @@ fn other_binary(op: BinaryOp, a: &Value, b: &Value) -> Result<Value, RunFault>
     }
 }
 
-/// The value of a binary operation on values that stand in no cell. `and`, `or` and `in` are read elsewhere, and so is a
-/// string before `%`.
+/// The value of a binary operation on values that stand in no cell. `and`, `or` and `in` are evaluated elsewhere, and
+/// so is a string before `%`.
 pub fn binary(alloc: Global, op: BinaryOp, a: &Value, b: &Value) -> Result<Value, Trouble>
     requires left { is_container a.now ≡ false }
     requires right { is_container b.now ≡ false }

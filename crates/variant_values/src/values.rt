@@ -1,6 +1,3 @@
-ghost use Rattle.std.specs.Prelude.{◌≡◌};
-ghost use Rattle.variant_values.specs.Keys.{same_key};
-
 use crate::classes::ClassTag;
 use crate::texts::Str;
 
@@ -35,11 +32,4 @@ pub enum Key {
     Int(i64),
     Str(Str),
     Object(Serial),
-}
-
-/// Whether two keys are one.
-pub fn is_same_key(a: &Key, b: &Key) -> bool
-    ensures { result ≡ same_key a.now b.now }
-{
-    *a == *b
 }

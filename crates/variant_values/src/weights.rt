@@ -8,7 +8,7 @@ use crate::classes::ClassTag;
 use crate::entries::Entries;
 use crate::values::{Key, Value};
 
-/// The bytes of a string.
+/// The bytes of a value that is a string, and 0 of another.
 pub fn text_weight(v: &Value) -> u64
     ensures weight { result ≡ text_weight v.now }
     ensures small { result < 2 ^ 63 }
@@ -70,7 +70,7 @@ pub fn items_room(values: &[Value], room: u64) -> Option<u64>
     Some(left)
 }
 
-/// The bytes of a string.
+/// The bytes of a key that is a string, and 0 of another.
 pub fn key_weight(k: &Key) -> u64
     ensures weight { result ≡ key_weight k.now }
     ensures small { result < 2 ^ 63 }

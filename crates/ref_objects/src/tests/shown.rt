@@ -3,6 +3,7 @@
 use crate::heap::Heap;
 use std::alloc::{AllocError, Global};
 use variant_values::cells::{Cell, ObjectCell};
+use variant_values::classes::{ClassTag, ElementTag};
 use variant_values::values::{Key, Value};
 
 // Long texts are told by their lengths.
@@ -39,7 +40,46 @@ fn push_values(out: &mut String, values: &[Value]) -> Result<(), AllocError> {
     Ok(())
 }
 
+fn push_class(out: &mut String, tag: &ClassTag) -> Result<(), AllocError> {
+    match tag {
+        ClassTag::Object => out.push_str("Object "),
+        ClassTag::RefCounted => out.push_str("RefCounted "),
+        ClassTag::Node => out.push_str("Node "),
+        ClassTag::Script(class) => write!(out, "script{}.{} ", class.file, class.index),
+    }
+}
+
+fn push_element(out: &mut String, tag: &ElementTag) -> Result<(), AllocError> {
+    out.push_str("of ")?;
+    match tag {
+        ElementTag::Bool => out.push_str("bool "),
+        ElementTag::Int => out.push_str("int "),
+        ElementTag::Str => out.push_str("text "),
+        ElementTag::Array => out.push_str("array "),
+        ElementTag::Dict => out.push_str("dict "),
+        ElementTag::Callable => out.push_str("callable "),
+        ElementTag::Signal => out.push_str("signal "),
+        ElementTag::Scene => out.push_str("scene "),
+        ElementTag::Weak => out.push_str("weak "),
+        ElementTag::Class(class) => push_class(out, class),
+    }
+}
+
+fn push_array(
+    out: &mut String,
+    items: &[Value],
+    of: &Option<ElementTag>,
+) -> Result<(), AllocError> {
+    if let Some(tag) = of {
+        push_element(out, tag)?;
+    }
+    push_values(out, items)
+}
+
 fn push_object(out: &mut String, object: &ObjectCell) -> Result<(), AllocError> {
+    for tag in object.lineage.as_slice() {
+        push_class(out, tag)?;
+    }
     push_values(out, object.fields.as_slice())?;
     for row in &object.connections.rows {
         write!(
@@ -64,7 +104,7 @@ fn push_object(out: &mut String, object: &ObjectCell) -> Result<(), AllocError> 
 
 fn push_cell(out: &mut String, cell: &Cell) -> Result<(), AllocError> {
     match cell {
-        Cell::Array(items, _) => push_values(out, items.as_slice()),
+        Cell::Array(items, of) => push_array(out, items.as_slice(), of),
         Cell::Dict(entries) => {
             for n in 0..entries.len() {
                 let (key, value) = entries.entry_at(n);
@@ -77,7 +117,7 @@ fn push_cell(out: &mut String, cell: &Cell) -> Result<(), AllocError> {
     }
 }
 
-/// Every cell with its count, and the queue.
+/// Every cell with its count, the queue, and the room that is left.
 pub fn shown(alloc: Global, heap: &Heap) -> Result<String, AllocError> {
     let mut out = String::new(alloc);
     for slot in &heap.slots {
@@ -93,5 +133,6 @@ pub fn shown(alloc: Global, heap: &Heap) -> Result<String, AllocError> {
     for node in heap.queued() {
         write!(out, "queued{} ", node.0)?;
     }
+    write!(out, "room{}", heap.room())?;
     Ok(out)
 }

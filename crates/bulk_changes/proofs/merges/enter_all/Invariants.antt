@@ -1,10 +1,11 @@
 use Rattle.std.proofs.Common.{drop}
 use Rattle.variant_values.specs.Changes.{Keeps}
+use Rattle.variant_values.specs.DictMethods.{entries_in}
 use Rattle.bulk_changes.proofs.Merging.{IsEntering}
 use Rattle.bulk_changes.proofs.merges.enter_all.Given as goal
 
 abbrev pub invariant-loop-i : goal.invariant-loop-i
 invariant-loop-i l = record {
-  entering : IsEntering l.fn.heap l.heap l.of.0 l.put (drop l.i l.put);
+  entering : IsEntering l.overwrite l.fn.heap l.heap l.of.0 (entries_in l.fn.heap l.other.0) (drop l.i (entries_in l.fn.heap l.other.0));
   keeps : Keeps l.fn.heap.cells l.heap.cells;
 }

@@ -1,27 +1,28 @@
-use Rattle.std.proofs.Common.{arith, ap, List, length}
-use Rattle.variant_values.specs.declared.values.Key.{Key}
-use Rattle.variant_values.specs.declared.values.Value.{Value}
-use Rattle.bulk_changes.specs.Merges.{keys_more, weights_less, weights_more}
-use Rattle.bulk_changes.proofs.Merging.{few, heavy, light, many}
+use Rattle.std.proofs.Common.{arith}
+use Rattle.bulk_changes.proofs.Merging.{alike, few, heavy, light, many}
 use Rattle.bulk_changes.proofs.merges.fits.Goals as goal
 
-pub returns-then-len-tally-clause-err : goal.returns-then-len-tally-clause-err
-returns-then-len-tally-clause-err c =
-    let e = c.entries-entries.ensures.value in
-    many c.args.heap.now c.args.of.0 c.requires.dict c.args.put.now c.requires.once (omega (arith, c.len.ensures, c.sum_up-tally.ensures.keys, ap (λ (es : List (Key × Value)). length es) e, ap (λ (es : List (Key × Value)). keys_more es c.args.put.now) e, c.if-len-tally.true))
+pub returns-then-len-tally-gt-MOST_ITEMS-clause-err : goal.returns-then-len-tally-gt-MOST_ITEMS-clause-err
+returns-then-len-tally-gt-MOST_ITEMS-clause-err c =
+    let same = alike c.args.heap.now c.args.of.0 c.args.other.0 c.args.overwrite c.entries-before.result.now c.entries-put.result.now c.entries-before.ensures.value c.entries-put.ensures.value in
+    let once = same.once c.entries-put.ensures.once in
+    many c.args.heap.now c.args.of.0 c.args.other.0 c.requires.dict c.args.overwrite once (omega (arith, same.length, same.keys, c.len.ensures, c.sum_up-tally.ensures.keys, c.if-len-tally-gt-MOST_ITEMS.true))
 
 pub returns-then-tally-room-clause-err : goal.returns-then-tally-room-clause-err
 returns-then-tally-room-clause-err c =
-    let e = c.entries-entries.ensures.value in
-    let less = few c.args.heap.now c.args.of.0 c.requires.dict c.args.put.now c.requires.once (omega (arith, c.len.ensures, c.sum_up-tally.ensures.keys, ap (λ (es : List (Key × Value)). length es) e, ap (λ (es : List (Key × Value)). keys_more es c.args.put.now) e, c.if-len-tally.false)) in
-    heavy c.args.heap.now c.args.of.0 c.requires.dict c.args.put.now c.requires.once less c.room.result c.room.ensures.room (omega (arith, c.sum_up-tally.ensures.more, c.sum_up-tally.ensures.less, ap (λ (es : List (Key × Value)). weights_more es c.args.put.now) e, ap (λ (es : List (Key × Value)). weights_less es c.args.put.now) e, c.if-tally-room.true))
+    let same = alike c.args.heap.now c.args.of.0 c.args.other.0 c.args.overwrite c.entries-before.result.now c.entries-put.result.now c.entries-before.ensures.value c.entries-put.ensures.value in
+    let once = same.once c.entries-put.ensures.once in
+    let less = few c.args.heap.now c.args.of.0 c.args.other.0 c.requires.dict c.args.overwrite once (omega (arith, same.length, same.keys, c.len.ensures, c.sum_up-tally.ensures.keys, c.if-len-tally-gt-MOST_ITEMS.false)) in
+    heavy c.args.heap.now c.args.of.0 c.args.other.0 c.requires.dict c.args.overwrite once less c.room.result c.room.ensures.room (omega (arith, same.more, same.less, c.sum_up-tally.ensures.more, c.sum_up-tally.ensures.less, c.if-tally-room.true))
 
 pub returns-clause-count : goal.returns-clause-count
 returns-clause-count c =
-    let e = c.entries-entries.ensures.value in
-    few c.args.heap.now c.args.of.0 c.requires.dict c.args.put.now c.requires.once (omega (arith, c.len.ensures, c.sum_up-tally.ensures.keys, ap (λ (es : List (Key × Value)). length es) e, ap (λ (es : List (Key × Value)). keys_more es c.args.put.now) e, c.if-len-tally.false))
+    let same = alike c.args.heap.now c.args.of.0 c.args.other.0 c.args.overwrite c.entries-before.result.now c.entries-put.result.now c.entries-before.ensures.value c.entries-put.ensures.value in
+    let once = same.once c.entries-put.ensures.once in
+    few c.args.heap.now c.args.of.0 c.args.other.0 c.requires.dict c.args.overwrite once (omega (arith, same.length, same.keys, c.len.ensures, c.sum_up-tally.ensures.keys, c.if-len-tally-gt-MOST_ITEMS.false))
 
 pub returns-clause-light : goal.returns-clause-light
 returns-clause-light c =
-    let e = c.entries-entries.ensures.value in
-    light c.args.heap.now c.args.of.0 c.requires.dict c.args.put.now c.requires.once c.room.result c.room.ensures.room (omega (arith, c.sum_up-tally.ensures.more, c.sum_up-tally.ensures.less, ap (λ (es : List (Key × Value)). weights_more es c.args.put.now) e, ap (λ (es : List (Key × Value)). weights_less es c.args.put.now) e, c.if-tally-room.false))
+    let same = alike c.args.heap.now c.args.of.0 c.args.other.0 c.args.overwrite c.entries-before.result.now c.entries-put.result.now c.entries-before.ensures.value c.entries-put.ensures.value in
+    let once = same.once c.entries-put.ensures.once in
+    light c.args.heap.now c.args.of.0 c.args.other.0 c.requires.dict c.args.overwrite once c.room.result c.room.ensures.room (omega (arith, same.more, same.less, c.sum_up-tally.ensures.more, c.sum_up-tally.ensures.less, c.if-tally-room.false))

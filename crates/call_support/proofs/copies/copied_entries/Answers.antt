@@ -7,6 +7,6 @@ use Rattle.call_support.proofs.copies.copied_entries.Goals as goal
 
 pub loop-i-preserved : goal.loop-i-preserved
 loop-i-preserved c =
-    c.in_ok-enter_copy.ensures
+    c.in_ok-enter_copy.ensures.ok
     ∙ ap (λ (es : List (Key × Value)). with_entry es c.entry_at.result.0.now c.entry_at.result.1.now) c.loop-i.invariant
     ∙ taken_next c.args.entries.now c.loop-i.i (c.entry_at.result.0.now, c.entry_at.result.1.now) c.requires c.entry_at.ensures

@@ -3,7 +3,8 @@ use Rattle.variant_values.specs.Keys.{same_key}
 use Rattle.std.specs.Prelude.{option_copied}
 use Rattle.variant_values.specs.declared.values.Value.{Value}
 use Rattle.variant_values.specs.Comparisons.{same_at, same_items, same_entries}
-use Rattle.container_calls.proofs.Walking.{at_is, items_full, items_stop, items_go, entries_full, entries_missing, entries_stop, entries_go, entry_known, found_known}
+use Rattle.container_calls.proofs.Walking.{at_is, items_full, items_stop, items_go, entries_full, entries_missing, entries_stop, entries_go, entry_known}
+use Rattle.call_support.proofs.Finding.{found_known}
 use Rattle.container_calls.proofs.comparisons.+walk.Goals as goal
 
 pub same_items-returns-then-left-eq0 : goal.same_items-returns-then-left-eq0
@@ -27,7 +28,7 @@ same_entries-returns-in_default t c =
     entries_missing (λ (a b : Value) (n : ℕ). same_at c.args.heap.now.cells c.args.levels a b n) c.args.es.now c.args.fs.now c.loop-i.i c.loop-i.left (c.entry_at.result.0.now, c.entry_at.result.1.now) (same_entries (λ a b n. same_at c.args.heap.now.cells c.args.levels a b n) c.args.es.now c.args.fs.now c.args.room) c.entry_at.ensures c.loop-i.invariant (omega (arith, c.if-left-eq0.false)) (sym c.get.ensures ∙ ap (λ o. option_copied o) c.in_default.is)
 
 pub same_entries-same_at-walked-requires : goal.same_entries-same_at-walked-requires
-same_entries-same_at-walked-requires t c = (search rules, ((entry_known c.args.heap.now.cells c.args.es.now c.loop-i.i (c.entry_at.result.0.now, c.entry_at.result.1.now) c.requires.left c.entry_at.ensures).1, found_known c.args.heap.now.cells c.args.fs.now (same_key c.entry_at.result.0.now) c.in-Some.b.now c.requires.right (sym c.get.ensures ∙ ap (λ o. option_copied o) c.in-Some.is)))
+same_entries-same_at-walked-requires t c = (search rules, ((entry_known c.args.heap.now.cells c.args.es.now c.loop-i.i (c.entry_at.result.0.now, c.entry_at.result.1.now) c.requires.left c.entry_at.ensures).1, found_known c.args.heap.now.cells (same_key c.entry_at.result.0.now) c.args.fs.now c.in-Some.b.now c.requires.right (sym c.get.ensures ∙ ap (λ o. option_copied o) c.in-Some.is)))
 
 pub same_entries-returns-in_default-left_of : goal.same_entries-returns-in_default-left_of
 same_entries-returns-in_default-left_of t c =

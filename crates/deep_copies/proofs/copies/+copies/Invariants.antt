@@ -1,7 +1,7 @@
 use Rattle.std.proofs.Common.{◌≡◌, ◌+◌, ◌*◌, ◌++◌, drop}
 use Rattle.variant_values.specs.Changes.{Keeps}
 use Rattle.variant_values.specs.Copies.{copied, copied_items, copied_entries}
-use Rattle.variant_values.specs.Heaps.{KnowsAll, KnowsEntries}
+use Rattle.variant_values.specs.Heaps.{cell_at, entries_of, items_of, KnowsAll, KnowsEntries}
 use Rattle.variant_values.specs.Keys.{HasKeysOnce}
 use Rattle.deep_copies.proofs.copies.+copies.Given as goal
 
@@ -20,17 +20,23 @@ decreases-copy_array l = 3 * l.levels + 2
 abbrev pub decreases-copy_dict : goal.decreases-copy_dict
 decreases-copy_dict l = 3 * l.levels + 2
 
-abbrev pub invariant-copy_items-loop-v : goal.invariant-copy_items-loop-v
-invariant-copy_items-loop-v l = record {
-  done : KnowsAll l.heap.cells l.copy.items;
-  keeps : Keeps l.fn.heap.cells l.heap.cells;
-  whole : (l.copy.items ++ (copied_items (copied l.levels) l.heap (drop l.v-index l.from)).0, (copied_items (copied l.levels) l.heap (drop l.v-index l.from)).1) ≡ copied_items (copied l.levels) l.fn.heap l.from;
-}
+abbrev pub invariant-copy_items-loop-i : goal.invariant-copy_items-loop-i
+invariant-copy_items-loop-i l =
+    let from = items_of (cell_at l.fn.heap.cells l.of.0) in
+    record {
+      done : KnowsAll l.heap.cells l.copy.items;
+      keeps : Keeps l.fn.heap.cells l.heap.cells;
+      stays : cell_at l.heap.cells l.of.0 ≡ cell_at l.fn.heap.cells l.of.0;
+      whole : (l.copy.items ++ (copied_items (copied l.levels) l.heap (drop l.i from)).0, (copied_items (copied l.levels) l.heap (drop l.i from)).1) ≡ copied_items (copied l.levels) l.fn.heap from;
+    }
 
 abbrev pub invariant-copy_entries-loop-i : goal.invariant-copy_entries-loop-i
-invariant-copy_entries-loop-i l = record {
-  done : KnowsEntries l.heap.cells l.copy;
-  keeps : Keeps l.fn.heap.cells l.heap.cells;
-  once : HasKeysOnce (l.copy ++ drop l.i l.from);
-  whole : (l.copy ++ (copied_entries (copied l.levels) l.heap (drop l.i l.from)).0, (copied_entries (copied l.levels) l.heap (drop l.i l.from)).1) ≡ copied_entries (copied l.levels) l.fn.heap l.from;
-}
+invariant-copy_entries-loop-i l =
+    let from = entries_of (cell_at l.fn.heap.cells l.of.0) in
+    record {
+      done : KnowsEntries l.heap.cells l.copy;
+      keeps : Keeps l.fn.heap.cells l.heap.cells;
+      stays : cell_at l.heap.cells l.of.0 ≡ cell_at l.fn.heap.cells l.of.0;
+      once : HasKeysOnce (l.copy ++ drop l.i from);
+      whole : (l.copy ++ (copied_entries (copied l.levels) l.heap (drop l.i from)).0, (copied_entries (copied l.levels) l.heap (drop l.i from)).1) ≡ copied_entries (copied l.levels) l.fn.heap from;
+    }
