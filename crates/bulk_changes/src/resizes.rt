@@ -14,11 +14,9 @@ use std::alloc::{AllocError, Global};
 use variant_values::classes::ElementTag;
 use variant_values::entries::Entries;
 use variant_values::faults::{RunFault, Trouble};
+use variant_values::operators::MOST_ITEMS;
 use variant_values::texts::Str;
 use variant_values::values::{Serial, Value};
-
-/// How many items an array may have.
-const MOST_ITEMS: usize = 1_048_576;
 
 /// The containers that items may be.
 #[derive(Clone, Copy)]

@@ -233,7 +233,7 @@ fn a_heavy_and_a_light_value_change_places(rt: HostRuntime) -> Result<(), Fail> 
     let s = add_dict(&mut heap, rt.alloc(), &of, &text)?;
     let of = [(1, Item::Heavy), (2, Item::Int(20))];
     let other = add_dict(&mut heap, rt.alloc(), &of, &text)?;
-    assert_eq!(rt; heap.room() < 1_048_576, true);
+    assert_eq!(rt; heap.room(), 1_048_268);
     check_merges(
         &rt,
         &mut heap,
@@ -349,11 +349,21 @@ fn an_array_that_is_too_heavy_stays(rt: HostRuntime) -> Result<(), Fail> {
     let text = heavy(rt.alloc())?;
     add_rest(&mut heap, rt.alloc(), 63, &text)?;
     let s = add_array(&mut heap, rt.alloc(), Some(ElementTag::Array))?;
-    let most = heap.room() / 18;
-    check_resize(&rt, &mut heap, s, (most as i64 + 1, "HeapFull", ""))?;
-    assert_eq!(rt; heap.room() / 18, most);
-    let answer = resize(rt.alloc(), &mut heap, s, most as i64);
+    assert_eq!(rt; heap.room(), 1_048_292);
+    check_resize(&rt, &mut heap, s, (58_239, "HeapFull", ""))?;
+    assert_eq!(rt; heap.room(), 1_048_292);
+    let answer = resize(rt.alloc(), &mut heap, s, 58_238);
     assert_eq!(rt; shown(rt.alloc(), &answer)?.as_str(), "0");
-    assert_eq!(rt; heap.room() < 18, true);
+    assert_eq!(rt; heap.room(), 8);
+    Ok(())
+}
+
+#[test]
+fn the_longest_array(rt: HostRuntime) -> Result<(), Fail> {
+    let mut heap = Heap::new(rt.alloc())?;
+    let s = add_array(&mut heap, rt.alloc(), Some(ElementTag::Int))?;
+    let answer = resize(rt.alloc(), &mut heap, s, 1_048_576);
+    assert_eq!(rt; shown(rt.alloc(), &answer)?.as_str(), "0");
+    assert_eq!(rt; heap.room(), 65_011_696);
     Ok(())
 }

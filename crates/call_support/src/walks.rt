@@ -7,13 +7,14 @@ ghost use Rattle.call_support.specs.Walks.{left_after};
 use crate::views::{entries, items};
 use ref_objects::heap::Heap;
 use variant_values::entries::Entries;
+use variant_values::operators;
 use variant_values::values::Value;
 
 /// The levels of containers that a walk may open.
 pub const MOST_LEVELS: u32 = 64;
 
-/// The items that a walk may come to, and that an array may have.
-pub const MOST_ITEMS: u64 = 1_048_576;
+/// The items that a walk may come to, as many as a container may have.
+pub const MOST_ITEMS: u64 = operators::MOST_ITEMS as u64;
 
 /// What is left of a room for items after a walk, or `None` where the walk passes a limit.
 #[cycle(counts)]

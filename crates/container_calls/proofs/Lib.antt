@@ -3,3 +3,4 @@ pub mod Entries
 pub mod Parts
 pub mod Sorting
 pub mod Plain
+pub mod CodePoints

@@ -8,12 +8,13 @@ ghost use Rattle.variant_values.specs.ArrayMethods.{append_array_of, append_of, 
 
 use crate::comparisons::{count_equal, first_equal};
 use crate::elements::{all_taken, is_taken};
-use crate::indexing::{MOST_ITEMS, one, spot};
+use crate::indexing::{one, spot};
 use call_support::changes::{new_array, splice};
 use call_support::views::{element, items};
 use ref_objects::heap::Heap;
 use std::alloc::{AllocError, Global};
 use variant_values::faults::{RunFault, Trouble};
+use variant_values::operators::MOST_ITEMS;
 use variant_values::values::{Serial, Value};
 
 /// How many items an array has.

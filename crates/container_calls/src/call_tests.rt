@@ -5,7 +5,7 @@ ghost use Rattle.variant_values.specs.Changes.{Keeps};
 
 use crate::array_calls::array_call;
 use crate::dict_calls::dict_call;
-use crate::samples::{Sample, described, keys_and_values, listed, made};
+use crate::samples::{Sample, add_largest, described, keys_and_values, listed, made};
 use call_support::views::items;
 use ref_objects::heap::Heap;
 use std::alloc::Global;
@@ -471,6 +471,48 @@ fn dictionaries_merged(rt: HostRuntime) -> Result<(), Fail> {
         (DictMethod::Merge, Args::Three),
     ];
     refuse_dicts(&rt, &refused)
+}
+
+/// Calls of one dictionary, one after the other.
+fn check_dict_calls(
+    rt: &(impl Abort + AllocGlobal),
+    heap: &mut Heap,
+    d: Serial,
+    cases: &[(DictMethod, Args, &str)],
+) -> Result<(), Fail>
+    requires { knows heap.old.cells (Value.Dict d) ≡ true }
+    ensures { Keeps heap.old.cells heap.new.cells }
+{
+    for case in cases {
+        let answer = call_dict(rt.alloc(), heap, d, case.0, &case.1)?;
+        assert_eq!(rt; answer.as_str(), case.2);
+    }
+    Ok(())
+}
+
+#[test]
+fn the_largest_dictionary_merged(rt: HostRuntime) -> Result<(), Fail> {
+    let mut heap = Heap::new(rt.alloc())?;
+    let d = add_largest(rt.alloc(), &mut heap)?;
+    let zero = Args::One(Sample::Number(0));
+    let below = Args::One(Sample::Number(-1));
+    let overwrite = Sample::Bool(true);
+    let present = Args::Two(Sample::Entries(&[(0, 5)]), overwrite);
+    let one_more = Args::Two(Sample::Entries(&[(0, 6), (-1, 6)]), overwrite);
+    let cases = [
+        (DictMethod::Merge, present, "null"),
+        (DictMethod::Get, zero, "5"),
+        (DictMethod::Merge, one_more, "TooLong"),
+        (DictMethod::Get, zero, "5"),
+        (DictMethod::Has, below, "false"),
+        (DictMethod::Size, Args::None, "1048576"),
+        (DictMethod::Erase, Args::One(Sample::Number(7)), "true"),
+        (DictMethod::Merge, one_more, "null"),
+        (DictMethod::Get, zero, "6"),
+        (DictMethod::Get, below, "6"),
+        (DictMethod::Size, Args::None, "1048576"),
+    ];
+    check_dict_calls(&rt, &mut heap, d, &cases)
 }
 
 #[test]

@@ -12,16 +12,13 @@ ghost use Rattle.variant_values.specs.declared.values.Value.{Value as AValue};
 use crate::elements::is_taken;
 use call_support::changes::{set_entry, splice};
 use call_support::views::{element, entries, items, value_at};
-use call_support::walks;
 use ref_objects::heap::Heap;
 use std::alloc::{AllocError, Global};
 use variant_values::entries::Entries;
 use variant_values::faults::{RunFault, Trouble};
+use variant_values::operators::MOST_ITEMS;
 use variant_values::texts::Str;
 use variant_values::values::{Key, Serial, Value};
-
-/// The most items that a container may have.
-pub(crate) const MOST_ITEMS: usize = walks::MOST_ITEMS as usize;
 
 /// The place of an index among `len`, where a negative one counts from the end.
 pub(crate) fn spot(index: i64, len: usize) -> Option<usize>

@@ -26,6 +26,6 @@ mod walk_tests;
 pub use array_calls::array_call;
 pub use dict_calls::dict_call;
 pub use indexing::{get_index, set_index};
-pub use laws::a_sort_is_sorted;
+pub use laws::{a_sort_is_sorted, texts_are_ordered_by_code_points};
 pub use operations::operate;
 pub use truths::truth;

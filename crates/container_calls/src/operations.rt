@@ -9,14 +9,13 @@ ghost use Rattle.container_calls.specs.Walks.{is_plain_op};
 
 use crate::comparisons::{equality, first_equal};
 use crate::elements::common;
-use crate::indexing::MOST_ITEMS;
 use call_support::changes::new_array;
 use call_support::views::{element, entries, items};
 use ref_objects::heap::Heap;
 use std::alloc::{AllocError, Global};
 use variant_values::entries::Entries;
 use variant_values::faults::{RunFault, Trouble};
-use variant_values::operators::{BinaryOp, binary};
+use variant_values::operators::{BinaryOp, MOST_ITEMS, binary};
 use variant_values::texts::Str;
 use variant_values::values::{Key, Serial, Value};
 

@@ -1,4 +1,4 @@
-// Single tokens. A list of tokens ends in the file's end, and in no other.
+// Single tokens. A list of tokens ends in the file's end.
 ghost use Rattle.std.specs.Prelude.{◌≡◌, ◌≢◌, ◌+◌, ◌<◌, ◌≤◌, true, false, max, length, Some, None, [], ◌∷◌, IfOk};
 ghost use Rattle.gd_syntax.specs.Reading.{Read, Answers};
 ghost use Rattle.gd_syntax.specs.TokenReading as spec;

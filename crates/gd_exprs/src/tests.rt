@@ -3,3 +3,4 @@
 mod printer;
 mod sizes;
 mod table;
+mod type_table;

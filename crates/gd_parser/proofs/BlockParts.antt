@@ -1,6 +1,5 @@
 -- Small steps of the readings of statements and blocks.
-use Rattle.std.proofs.Common.{◌≡◌, ◌≢◌, ℕ, zero, suc, ◌-◌, ◌≤◌, Bool, true, false, List, [], ◌∷◌, ◌++◌, map, Option, Some, None, refl, sym, subst, arith}
-use Rattle.std.proofs.lemmas.List.{map-append}
+use Rattle.std.proofs.Common.{◌≡◌, ◌≢◌, ℕ, zero, suc, ◌-◌, ◌≤◌, Bool, true, false, List, [], ◌∷◌, ◌++◌, Option, Some, None, refl, sym, subst, arith}
 use Rattle.gd_syntax.specs.declared.fault.Place.{Place}
 use Rattle.gd_syntax.specs.declared.token.Token.{Token}
 use Rattle.gd_syntax.specs.declared.token.Mark.{Mark}
@@ -10,7 +9,6 @@ use Rattle.gd_syntax.specs.declared.tree.member.Annotation.{Annotation}
 use Rattle.gd_syntax.specs.declared.tree.pattern.Pattern.{Pattern}
 use Rattle.gd_syntax.specs.declared.tree.statement.Simple.{Simple}
 use Rattle.gd_syntax.specs.declared.tree.statement.Stmt.{Stmt}
-use Rattle.gd_syntax.specs.declared.tree.statement.Stmt.TheVariants as s
 use Rattle.gd_syntax.specs.declared.stops.Sought.TheVariants.{Other}
 use Rattle.gd_syntax.specs.Reading.{Outcome, Read, Stops, Reading, Then, goes, halts, ◌>>=◌, ◌>>◌, give, Look, looks, Turn, On, Loop}
 use Rattle.gd_syntax.specs.TokenReading.{max_levels, mark_at, skip, refuse, Due}
@@ -30,9 +28,6 @@ pub loop_then : {A B : Type 0} {turn : A → Reading (Turn A)} {rest : A → Rea
     → turn a at (Read (On b) next) → Then (Loop turn b) rest next o → Then (Loop turn a) rest at o
 loop_then t (goes h r) = goes (Loop.on t h) r
 loop_then t (halts h) = halts (Loop.on t h)
-
-pub push_simple : (items : List Stmt) (all : List Simple) (x : Simple) → items ≡ map s.Simple all → items ++ s.Simple x ∷ [] ≡ map s.Simple (all ++ x ∷ [])
-push_simple items all x e = rw e (sym (map-append s.Simple all (x ∷ [])))
 
 -- what follows a part that was read
 abbrev followed : {A B : Type 0} → (A → Reading B) → Outcome B → Outcome A → Type 0

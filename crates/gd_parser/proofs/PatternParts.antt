@@ -22,9 +22,7 @@ use Rattle.gd_syntax.specs.StatementGrammar.{binds, unbound, unbound_form, unbou
 use Rattle.gd_syntax.proofs.PatternSteps.{pattern_is, pattern_full}
 use Rattle.gd_syntax.proofs.StatementSteps.{unbound_is, unbound_full}
 use Rattle.gd_syntax.proofs.Targets.{binds-Wildcard, binds-Path}
-use Rattle.gd_syntax.proofs.Targets as targets
 use Rattle.gd_parser.specs.PatternForms.{pattern, full, bind, path, other_by, other, form_by, unfinished, form}
-use Rattle.gd_parser.specs.FoundPatterns.{entry_binds}
 
 -- ---- whether a `var` stands in a list
 
@@ -37,11 +35,6 @@ one_any f x = or_false (f x)
 
 pub push_any : {A : Type 0} (f : A → Bool) (all : List A) (x : A) → list_any f (all ++ x ∷ []) ≡ (list_any f all || f x)
 push_any f all x = list_any-append f all (x ∷ []) ∙ ap (λ b. list_any f all || b) (one_any f x)
-
-pub entries_alike : (all : List (Literal × Option Pattern)) → list_any entry_binds all ≡ list_any targets.entry_binds all
-entries_alike [] = refl
-entries_alike ((key, Some x) ∷ all) = ap (λ b. binds x || b) (entries_alike all)
-entries_alike ((key, None) ∷ all) = entries_alike all
 
 one_binds : (place : Place) (names : List (List ℕ)) (b : Bool) → binds (if b then p.Wildcard place else p.Path place names) ≡ false
 one_binds place names true = binds-Wildcard place

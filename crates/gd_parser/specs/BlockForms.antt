@@ -1,5 +1,5 @@
 -- The readings of statements, where `room` further blocks may be open inside the one that has begun.
-use Rattle.std.specs.Prelude.{ℕ, ◌<◌, ◌≤◌, Bool, List, length, map, Option, Result, IfOk}
+use Rattle.std.specs.Prelude.{ℕ, ◌<◌, ◌≤◌, Bool, List, length, Option, Result, IfOk}
 use Rattle.std.specs.Borrow.{Bor}
 use Rattle.std.specs.declared.alloc.Global.{Global}
 use Rattle.gd_syntax.specs.declared.fault.Place.{Place}
@@ -11,7 +11,6 @@ use Rattle.gd_syntax.specs.declared.tree.pattern.Pattern.{Pattern}
 use Rattle.gd_syntax.specs.declared.tree.statement.Simple.{Simple}
 use Rattle.gd_syntax.specs.declared.tree.statement.Simple.TheVariants as simply
 use Rattle.gd_syntax.specs.declared.tree.statement.Stmt.{Stmt}
-use Rattle.gd_syntax.specs.declared.tree.statement.Stmt.TheVariants as s
 use Rattle.gd_syntax.specs.Reading.{Reading, ◌>>=◌, ◌>>◌, Read, Answers, give, Turn, Look, Loop}
 use Rattle.gd_syntax.specs.declared.stops.Sought.TheVariants.{Other}
 use Rattle.gd_syntax.specs.TokenReading.{IsEnded, mark_at, Due}
@@ -37,10 +36,6 @@ module _ (tokens : List Token) where
   -- what follows the first statement of a line
   abbrev pub line_turn : List Simple → Reading (Turn (List Simple))
   line_turn sofar = Look (mark_at tokens) (grammar.line_by tokens sofar)
-
-  -- a line behind these statements
-  abbrev pub line_rest : List Simple → Reading (List Stmt)
-  line_rest sofar = do all ← Loop line_turn sofar; Due tokens Other m.Newline; give (map s.Simple all)
 
   module _ (room : ℕ) where
     abbrev pub inner : Reading (List Stmt)
@@ -73,11 +68,7 @@ module _ (tokens : List Token) where
     abbrev pub match_stmt : Place → Reading Stmt
     match_stmt = grammar.match_stmt tokens inner
 
-    -- a statement that is alone
-    abbrev pub one : Reading Stmt → Reading (List Stmt)
-    one = grammar.one tokens inner
-
-    abbrev pub stmt : Reading (List Stmt)
+    abbrev pub stmt : Reading Stmt
     stmt = grammar.stmt tokens inner
 
     abbrev pub body_turn : List Stmt → Reading (Turn (List Stmt))

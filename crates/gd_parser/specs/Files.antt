@@ -41,8 +41,8 @@ module _ (tokens : List Token) (header_end : Place) where
 abbrev pub base_refused : FoundHeads → Bool
 base_refused f = list_any is_field_annotation f.behind.items || list_any is_based f.heads
 
--- What is told of the annotations behind the heads is true.
-pub record IsTold (f : FoundHeads) : Type 0 where
+-- The flags say what annotations stand behind the heads.
+pub record HasFlags (f : FoundHeads) : Type 0 where
   pub field : f.behind_field ≡ list_any is_field_annotation f.behind.items
   pub head : f.behind_head ≡ list_any is_head_annotation f.behind.items
 

@@ -3,8 +3,8 @@ use Rattle.std.specs.Prelude.{◌≡◌, ℕ, ◌<◌, ◌≤◌, Bool, false, L
 use Rattle.std.specs.List.{list_any}
 use Rattle.std.specs.Borrow.{Bor}
 use Rattle.std.specs.declared.alloc.Global.{Global}
-use Rattle.gd_syntax.specs.declared.tree.expr.Literal.{Literal}
 use Rattle.gd_syntax.specs.declared.tree.pattern.Pattern.{Pattern}
+use Rattle.gd_syntax.specs.declared.tree.pattern.PatternEntry.{PatternEntry}
 use Rattle.gd_syntax.specs.declared.fault.SolveError.{SolveError}
 use Rattle.gd_syntax.specs.declared.token.Token.{Token}
 use Rattle.gd_syntax.specs.TokenReading.{IsEnded}
@@ -23,16 +23,11 @@ found f = Read f.tree f.at
 abbrev pub found_patterns : FoundPatterns → Outcome (List Pattern)
 found_patterns f = Read f.items f.at
 
-abbrev pub found_entry : FoundEntry → Outcome (Literal × Option Pattern)
-found_entry f = Read (f.key, f.value) f.at
+abbrev pub found_entry : FoundEntry → Outcome PatternEntry
+found_entry f = Read f.tree f.at
 
-abbrev pub found_entries : FoundEntries → Outcome (List (Literal × Option Pattern))
+abbrev pub found_entries : FoundEntries → Outcome (List PatternEntry)
 found_entries f = Read f.items f.at
-
--- whether a `var` stands in the pattern of an entry
-abbrev pub entry_binds : Literal × Option Pattern → Bool
-entry_binds (key, Some x) = branches.binds x
-entry_binds (key, None) = false
 
 -- Something was read from `at`, and the tokens go on after it.
 pub record IsPattern (tokens : List Token) (at : ℕ) (f : FoundPattern) : Type 0 where
@@ -47,12 +42,12 @@ pub record IsPatterns (tokens : List Token) (at : ℕ) (f : FoundPatterns) : Typ
   pub within : f.at < length tokens
 
 pub record IsEntry (tokens : List Token) (at : ℕ) (f : FoundEntry) : Type 0 where
-  pub binds : f.binds ≡ entry_binds (f.key, f.value)
+  pub binds : f.binds ≡ branches.entry_binds f.tree
   pub after : at < f.at
   pub within : f.at < length tokens
 
 pub record IsEntries (tokens : List Token) (at : ℕ) (f : FoundEntries) : Type 0 where
-  pub binds : f.binds ≡ list_any entry_binds f.items
+  pub binds : f.binds ≡ list_any branches.entry_binds f.items
   pub after : at ≤ f.at
   pub within : f.at < length tokens
 

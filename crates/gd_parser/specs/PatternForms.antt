@@ -9,6 +9,7 @@ use Rattle.gd_syntax.specs.declared.token.Mark.TheVariants as m
 use Rattle.gd_syntax.specs.declared.tree.expr.Literal.{Literal}
 use Rattle.gd_syntax.specs.declared.tree.pattern.Pattern.{Pattern}
 use Rattle.gd_syntax.specs.declared.tree.pattern.Pattern.TheVariants as p
+use Rattle.gd_syntax.specs.declared.tree.pattern.PatternEntry.{PatternEntry}
 use Rattle.gd_syntax.specs.Reading.{Reading, ◌>>=◌, either, Turn, Look}
 use Rattle.gd_syntax.specs.declared.stops.Sought.TheVariants.{Other}
 use Rattle.gd_syntax.specs.TokenReading.{kind_at, mark_at, place_at, literal_of, refuse}
@@ -67,13 +68,13 @@ module _ (tokens : List Token) (free : Bool) where
     abbrev pub key : Reading Literal
     key = Look (λ at. literal_of (kind_at tokens at)) (grammar.key_by tokens room inner)
 
-    abbrev pub entry : Reading (Literal × Option Pattern)
+    abbrev pub entry : Reading PatternEntry
     entry = grammar.entry_pattern tokens room inner
 
-    abbrev pub more_entries : List (Literal × Option Pattern) → Reading (Turn (List (Literal × Option Pattern)))
+    abbrev pub more_entries : List PatternEntry → Reading (Turn (List PatternEntry))
     more_entries = grammar.more tokens entry
 
-    abbrev pub entries : Reading (List (Literal × Option Pattern))
+    abbrev pub entries : Reading (List PatternEntry)
     entries = grammar.items tokens entry m.RBrace
 
     abbrev pub dict : Place → Reading Pattern

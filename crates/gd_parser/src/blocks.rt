@@ -10,13 +10,13 @@ ghost use Rattle.gd_parser.specs.BlockForms.{NestsBlocks};
 
 use crate::declarations::{expr, new_name, optional_type};
 use crate::lists::one;
-use crate::statements::line;
+use crate::statements::{line, line_block};
 use gd_exprs::reader::{due, fault_at, mark_at, place_at, sees, skip};
 use gd_syntax::{Expr, FaultKind, Mark, Place, SolveError, Sought, Stmt, Token};
 use std::alloc::Global;
 use tree_lists::{Boxed, Items};
 
-/// An expression and the `:` after it.
+/// An expression and the `:` after it. It is boxed, so that what keeps it over a block moves one word and no whole tree.
 fn headed(alloc: Global, tokens: &[Token], start: usize) -> Result<(Boxed<Expr>, usize), SolveError>
     requires within { start < length tokens.now }
     requires ended { IsEnded tokens.now }
@@ -115,12 +115,12 @@ where
         Ok((Some(body), end))
     }
 
-    fn if_statement(&self, at: usize) -> Result<(Items<Stmt>, usize), SolveError>
+    fn if_statement(&self, at: usize) -> Result<(Stmt, usize), SolveError>
         requires nests { NestsBlocks self.now.room (F.pre self.now.inner) (F.post self.now.inner) }
         requires within { at < length self.now.tokens.now }
         requires ended { IsEnded self.now.tokens.now }
         requires begins { mark_at self.now.tokens.now at ≡ Some Mark.If }
-        ensures reads { Answers (λ found. Read found.0 found.1) result (spec.one self.now.tokens.now self.now.room (spec.if_stmt self.now.tokens.now self.now.room (place_at self.now.tokens.now at)) at) }
+        ensures reads { Answers (λ found. Read found.0 found.1) result (spec.if_stmt self.now.tokens.now self.now.room (place_at self.now.tokens.now at) at) }
         ensures within { IfOk result (λ found. found.1 < length self.now.tokens.now) }
         ensures after { IfOk result (λ found. at < found.1) }
     {
@@ -129,16 +129,15 @@ where
         let first = one(self.alloc, (condition, body))?;
         let (all, middle) = self.elifs(next, first)?;
         let (other, end) = self.other(middle)?;
-        let list = one(self.alloc, Stmt::If(place, all, other))?;
-        Ok((list, end))
+        Ok((Stmt::If(place, all, other), end))
     }
 
-    fn for_statement(&self, at: usize) -> Result<(Items<Stmt>, usize), SolveError>
+    fn for_statement(&self, at: usize) -> Result<(Stmt, usize), SolveError>
         requires nests { NestsBlocks self.now.room (F.pre self.now.inner) (F.post self.now.inner) }
         requires within { at < length self.now.tokens.now }
         requires ended { IsEnded self.now.tokens.now }
         requires begins { mark_at self.now.tokens.now at ≡ Some Mark.For }
-        ensures reads { Answers (λ found. Read found.0 found.1) result (spec.one self.now.tokens.now self.now.room (spec.for_stmt self.now.tokens.now self.now.room (place_at self.now.tokens.now at)) at) }
+        ensures reads { Answers (λ found. Read found.0 found.1) result (spec.for_stmt self.now.tokens.now self.now.room (place_at self.now.tokens.now at) at) }
         ensures within { IfOk result (λ found. found.1 < length self.now.tokens.now) }
         ensures after { IfOk result (λ found. at < found.1) }
     {
@@ -148,34 +147,32 @@ where
         let start = due(self.tokens, middle, Sought::Other, Mark::In)?;
         let (subject, open) = headed(self.alloc, self.tokens, start)?;
         let (body, end) = self.inner(open)?;
-        let list = one(
-            self.alloc,
+        Ok((
             Stmt::For(place, name, kind, subject.into_inner(), body),
-        )?;
-        Ok((list, end))
+            end,
+        ))
     }
 
-    fn while_statement(&self, at: usize) -> Result<(Items<Stmt>, usize), SolveError>
+    fn while_statement(&self, at: usize) -> Result<(Stmt, usize), SolveError>
         requires nests { NestsBlocks self.now.room (F.pre self.now.inner) (F.post self.now.inner) }
         requires within { at < length self.now.tokens.now }
         requires ended { IsEnded self.now.tokens.now }
         requires begins { mark_at self.now.tokens.now at ≡ Some Mark.While }
-        ensures reads { Answers (λ found. Read found.0 found.1) result (spec.one self.now.tokens.now self.now.room (spec.while_stmt self.now.tokens.now self.now.room (place_at self.now.tokens.now at)) at) }
+        ensures reads { Answers (λ found. Read found.0 found.1) result (spec.while_stmt self.now.tokens.now self.now.room (place_at self.now.tokens.now at) at) }
         ensures within { IfOk result (λ found. found.1 < length self.now.tokens.now) }
         ensures after { IfOk result (λ found. at < found.1) }
     {
         let place = place_at(self.tokens, at);
         let (condition, body, end) = self.branch(at)?;
-        let list = one(self.alloc, Stmt::While(place, condition, body))?;
-        Ok((list, end))
+        Ok((Stmt::While(place, condition, body), end))
     }
 
-    fn match_statement(&self, at: usize) -> Result<(Items<Stmt>, usize), SolveError>
+    fn match_statement(&self, at: usize) -> Result<(Stmt, usize), SolveError>
         requires nests { NestsBlocks self.now.room (F.pre self.now.inner) (F.post self.now.inner) }
         requires within { at < length self.now.tokens.now }
         requires ended { IsEnded self.now.tokens.now }
         requires begins { mark_at self.now.tokens.now at ≡ Some Mark.Match }
-        ensures reads { Answers (λ found. Read found.0 found.1) result (spec.one self.now.tokens.now self.now.room (spec.match_stmt self.now.tokens.now self.now.room (place_at self.now.tokens.now at)) at) }
+        ensures reads { Answers (λ found. Read found.0 found.1) result (spec.match_stmt self.now.tokens.now self.now.room (place_at self.now.tokens.now at) at) }
         ensures within { IfOk result (λ found. found.1 < length self.now.tokens.now) }
         ensures after { IfOk result (λ found. at < found.1) }
     {
@@ -185,15 +182,11 @@ where
         let start = due(self.tokens, open, Sought::Other, Mark::Indent)?;
         let (branches, last) = self.match_branches(start)?;
         let end = due(self.tokens, last, Sought::Other, Mark::Dedent)?;
-        let list = one(
-            self.alloc,
-            Stmt::Match(place, subject.into_inner(), branches),
-        )?;
-        Ok((list, end))
+        Ok((Stmt::Match(place, subject.into_inner(), branches), end))
     }
 
-    /// A statement that begins with a keyword or a sign, or a line of them.
-    fn marked(&self, at: usize, mark: Mark) -> Result<(Items<Stmt>, usize), SolveError>
+    /// A statement that begins with a keyword or a sign.
+    fn marked(&self, at: usize, mark: Mark) -> Result<(Stmt, usize), SolveError>
         requires nests { NestsBlocks self.now.room (F.pre self.now.inner) (F.post self.now.inner) }
         requires within { at < length self.now.tokens.now }
         requires ended { IsEnded self.now.tokens.now }
@@ -211,8 +204,7 @@ where
         }
     }
 
-    /// A statement, or a line of several.
-    fn statement(&self, at: usize) -> Result<(Items<Stmt>, usize), SolveError>
+    fn statement(&self, at: usize) -> Result<(Stmt, usize), SolveError>
         requires nests { NestsBlocks self.now.room (F.pre self.now.inner) (F.post self.now.inner) }
         requires within { at < length self.now.tokens.now }
         requires ended { IsEnded self.now.tokens.now }
@@ -238,8 +230,8 @@ where
         let mut all = Items::new(self.alloc);
         let mut at = start;
         'statements: while !sees(self.tokens, at, Mark::Dedent) {
-            let (more, next) = self.statement(at)?;
-            all.append(more)?;
+            let (tree, next) = self.statement(at)?;
+            all.push(tree)?;
             at = next;
         }
         Ok((all, at))
@@ -255,7 +247,7 @@ where
         ensures after { IfOk result (λ found. at < found.1) }
     {
         if !sees(self.tokens, at, Mark::Newline) {
-            return line(self.alloc, self.tokens, at);
+            return line_block(self.alloc, self.tokens, at);
         }
         let start = due(
             self.tokens,

@@ -9,7 +9,7 @@ use crate::declarations::{Owner, annots, new_name};
 use crate::functions::below;
 use crate::members::{annotated, const_line, enum_line, optional_base, pass_line, signal_line};
 use gd_exprs::reader::{due, fault_at, mark_at, place_at, sees, skip};
-use gd_syntax::{FaultKind, Mark, Member, SolveError, Sought, Token};
+use gd_syntax::{Class, FaultKind, Mark, Member, SolveError, Sought, Token};
 use std::alloc::Global;
 use tree_lists::Items;
 
@@ -122,7 +122,12 @@ fn inner_class(
         at: end,
     } = class_block(alloc, tokens, start, room, classes + 1)?;
     Ok(FoundMember {
-        tree: Member::Class(place, name, base, members),
+        tree: Member::Class(Class {
+            place,
+            name,
+            base,
+            members,
+        }),
         classes: begun,
         at: end,
     })

@@ -19,9 +19,13 @@ use tree_lists::Items;
 pub enum Owner {
     Statement,
     Member,
-    /// A head or the first member of a file, and whether an annotation of a variable, and one of a file, stands before
-    /// this one.
-    File(bool, bool),
+    /// A head or the first member of a file.
+    File {
+        /// whether an annotation of a variable stands before this one
+        behind_field: bool,
+        /// whether one of a file does
+        behind_head: bool,
+    },
 }
 
 /// Whether an annotation of this name belongs to the file.
@@ -50,7 +54,10 @@ fn may_be(owner: Owner, name: &Name) -> bool
     match owner {
         Owner::Statement => is_ignore_word(name),
         Owner::Member => is_field_word(name) || is_ignore_word(name),
-        Owner::File(behind_field, behind_head) => {
+        Owner::File {
+            behind_field,
+            behind_head,
+        } => {
             is_ignore_word(name)
                 || is_head_word(name) && !behind_field
                 || is_field_word(name) && !behind_head

@@ -1,7 +1,7 @@
 // What the rules of patterns have read, with the place of the token after it.
 
-use gd_syntax::{Literal, Pattern};
-use tree_lists::{Boxed, Items};
+use gd_syntax::{Pattern, PatternEntry};
+use tree_lists::Items;
 
 /// A pattern, and whether a `var` stands in it.
 #[derive(Debug, Drop)]
@@ -22,15 +22,14 @@ pub struct FoundPatterns {
 /// An entry of a dictionary, and whether a `var` stands in it.
 #[derive(Debug, Drop)]
 pub struct FoundEntry {
-    pub key: Literal,
-    pub value: Option<Boxed<Pattern>>,
+    pub tree: PatternEntry,
     pub binds: bool,
     pub at: usize,
 }
 
 #[derive(Debug, Drop)]
 pub struct FoundEntries {
-    pub items: Items<(Literal, Option<Boxed<Pattern>>)>,
+    pub items: Items<PatternEntry>,
     pub binds: bool,
     pub at: usize,
 }

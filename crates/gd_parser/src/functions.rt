@@ -26,7 +26,7 @@ const MAX_BLOCKS: usize = 128;
 
 /// Whose parameters are read. Those of a signal have no default.
 #[derive(Clone, Copy, Debug, PartialEq, Eq)]
-pub enum Callee {
+pub enum ParamOwner {
     Signal,
     Func,
 }
@@ -112,20 +112,20 @@ fn param_type(
     alloc: Global,
     tokens: &[Token],
     at: usize,
-    callee: Callee,
+    owner: ParamOwner,
     before: &Items<Param>,
     is_due: bool,
 ) -> Result<(Declared, usize), SolveError>
     requires within { at < length tokens.now }
     requires ended { IsEnded tokens.now }
     requires is_due { is_due ≡ list_any (λ p. spec.has_value p.declared) before.now }
-    ensures reads { Answers (λ found. Read found.0 found.1) result (what tokens.now callee before.now at) }
+    ensures reads { Answers (λ found. Read found.0 found.1) result (what tokens.now owner before.now at) }
     ensures within { IfOk result (λ found. found.1 < length tokens.now) }
     ensures after { IfOk result (λ found. at ≤ found.1) }
 {
-    match callee {
-        Callee::Signal => signal_param(alloc, tokens, at, before),
-        Callee::Func => func_param(alloc, tokens, at, before, is_due),
+    match owner {
+        ParamOwner::Signal => signal_param(alloc, tokens, at, before),
+        ParamOwner::Func => func_param(alloc, tokens, at, before, is_due),
     }
 }
 
@@ -134,14 +134,14 @@ fn param(
     alloc: Global,
     tokens: &[Token],
     at: usize,
-    callee: Callee,
+    owner: ParamOwner,
     before: &Items<Param>,
     is_due: bool,
 ) -> Result<(Param, usize), SolveError>
     requires within { at < length tokens.now }
     requires ended { IsEnded tokens.now }
     requires is_due { is_due ≡ list_any (λ p. spec.has_value p.declared) before.now }
-    ensures reads { Answers (λ found. Read found.0 found.1) result (spec.param tokens.now (what tokens.now callee) before.now at) }
+    ensures reads { Answers (λ found. Read found.0 found.1) result (spec.param tokens.now (what tokens.now owner) before.now at) }
     ensures within { IfOk result (λ found. found.1 < length tokens.now) }
     ensures after { IfOk result (λ found. at < found.1) }
 {
@@ -150,7 +150,7 @@ fn param(
             below(tokens, at, before.len(), MAX_PARAMS)?;
             let place = place_at(tokens, at);
             let name = name.clone()?;
-            let (what, next) = param_type(alloc, tokens, skip(tokens, at), callee, before, is_due)?;
+            let (what, next) = param_type(alloc, tokens, skip(tokens, at), owner, before, is_due)?;
             Ok((
                 Param {
                     name: Identifier { place, name },
@@ -175,11 +175,11 @@ fn params_before(
     alloc: Global,
     tokens: &[Token],
     start: usize,
-    callee: Callee,
+    owner: ParamOwner,
 ) -> Result<(Items<Param>, usize), SolveError>
     requires within { start < length tokens.now }
     requires ended { IsEnded tokens.now }
-    ensures reads { Answers (λ found. Read found.0 found.1) result (Loop (λ sofar. Look (mark_at tokens.now) (spec.params_by tokens.now (what tokens.now callee) sofar)) [] start) }
+    ensures reads { Answers (λ found. Read found.0 found.1) result (Loop (λ sofar. Look (mark_at tokens.now) (spec.params_by tokens.now (what tokens.now owner) sofar)) [] start) }
     ensures within { IfOk result (λ found. found.1 < length tokens.now) }
     ensures after { IfOk result (λ found. start ≤ found.1) }
 {
@@ -187,7 +187,7 @@ fn params_before(
     let mut is_due = false;
     let mut at = start;
     'params: while !sees(tokens, at, Mark::RParen) {
-        let (item, next) = param(alloc, tokens, at, callee, &all, is_due)?;
+        let (item, next) = param(alloc, tokens, at, owner, &all, is_due)?;
         is_due = has_default(is_due, &item);
         all.push(item)?;
         at = next;
@@ -205,15 +205,15 @@ fn params(
     alloc: Global,
     tokens: &[Token],
     at: usize,
-    callee: Callee,
+    owner: ParamOwner,
 ) -> Result<(Items<Param>, usize), SolveError>
     requires within { at < length tokens.now }
     requires ended { IsEnded tokens.now }
-    ensures reads { Answers (λ found. Read found.0 found.1) result (spec.params tokens.now (what tokens.now callee) at) }
+    ensures reads { Answers (λ found. Read found.0 found.1) result (spec.params tokens.now (what tokens.now owner) at) }
     ensures within { IfOk result (λ found. found.1 < length tokens.now) }
     ensures after { IfOk result (λ found. at < found.1) }
 {
-    let (all, close) = params_before(alloc, tokens, at, callee)?;
+    let (all, close) = params_before(alloc, tokens, at, owner)?;
     let next = due(tokens, close, Sought::Other, Mark::RParen)?;
     Ok((all, next))
 }
@@ -233,7 +233,7 @@ fn signal_params(
     if !sees(tokens, at, Mark::LParen) {
         return Ok((Items::new(alloc), at));
     }
-    params(alloc, tokens, skip(tokens, at), Callee::Signal)
+    params(alloc, tokens, skip(tokens, at), ParamOwner::Signal)
 }
 
 /// A signal from its keyword on.
@@ -298,7 +298,7 @@ pub fn func(
 {
     let (name, open) = new_name(tokens, at)?;
     let first = due(tokens, open, Sought::Other, Mark::LParen)?;
-    let (all, arrow) = params(alloc, tokens, first, Callee::Func)?;
+    let (all, arrow) = params(alloc, tokens, first, ParamOwner::Func)?;
     let (kind, colon) = optional_result(alloc, tokens, arrow)?;
     let start = due(tokens, colon, Sought::Other, Mark::Colon)?;
     let (body, end) = block(alloc, tokens, start, MAX_BLOCKS)?;

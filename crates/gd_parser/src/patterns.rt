@@ -7,7 +7,7 @@ ghost use Rattle.gd_syntax.specs.TokenReading.{IsEnded, max_levels, kind_at, mar
 ghost use Rattle.gd_syntax.specs.PatternGrammar as grammar;
 ghost use Rattle.gd_syntax.specs.StatementGrammar as branches;
 ghost use Rattle.gd_parser.specs.PatternForms as spec;
-ghost use Rattle.gd_parser.specs.FoundPatterns.{Nests, IsPattern, IsPatterns, IsEntry, IsEntries, found, found_patterns, found_entry, found_entries, entry_binds};
+ghost use Rattle.gd_parser.specs.FoundPatterns.{Nests, IsPattern, IsPatterns, IsEntry, IsEntries, found, found_patterns, found_entry, found_entries};
 
 use crate::found_patterns::{FoundEntries, FoundEntry, FoundPattern, FoundPatterns};
 use gd_exprs::MAX_LEVELS;
@@ -16,7 +16,8 @@ use gd_exprs::reader::{
     place_at, plain_name, refuse, sees, skip,
 };
 use gd_syntax::{
-    FaultKind, Form, Kind, Literal, Mark, Name, Pattern, Place, SolveError, Sought, Token,
+    FaultKind, Form, Kind, Literal, Mark, Name, Pattern, PatternEntry, Place, SolveError, Sought,
+    Token,
 };
 use std::alloc::Global;
 use tree_lists::{Boxed, Items};
@@ -328,11 +329,15 @@ where
         ensures reads { Answers found_entry result (spec.entry self.now.tokens.now self.now.free self.now.room start) }
         ensures found { IfOk result (IsEntry self.now.tokens.now start) }
     {
+        let place = place_at(self.tokens, start);
         let (key, at) = self.key(start)?;
         if !sees(self.tokens, at, Mark::Colon) {
             return Ok(FoundEntry {
-                key,
-                value: None,
+                tree: PatternEntry {
+                    place,
+                    key,
+                    value: None,
+                },
                 binds: false,
                 at,
             });
@@ -344,8 +349,11 @@ where
         } = self.inner(skip(self.tokens, at))?;
         let value = Boxed::new(self.alloc, tree)?;
         Ok(FoundEntry {
-            key,
-            value: Some(value),
+            tree: PatternEntry {
+                place,
+                key,
+                value: Some(value),
+            },
             binds,
             at: end,
         })
@@ -357,26 +365,24 @@ where
         requires ended { IsEnded self.now.tokens.now }
         requires some { 1 ≤ self.now.room }
         requires within { first.at < length self.now.tokens.now }
-        requires binds { first.binds ≡ entry_binds (first.key, first.value) }
-        ensures reads { Answers found_entries result (Loop (spec.more_entries self.now.tokens.now self.now.free self.now.room) ((first.key, first.value) ∷ []) first.at) }
+        requires binds { first.binds ≡ branches.entry_binds first.tree }
+        ensures reads { Answers found_entries result (Loop (spec.more_entries self.now.tokens.now self.now.free self.now.room) (first.tree ∷ []) first.at) }
         ensures found { IfOk result (IsEntries self.now.tokens.now first.at) }
     {
         let FoundEntry {
-            key,
-            value,
+            tree,
             mut binds,
             mut at,
         } = first;
         let mut items = Items::new(self.alloc);
-        items.push((key, value))?;
+        items.push(tree)?;
         'items: while goes_on(kind_at(self.tokens, at), next_kind(self.tokens, at)) {
             let FoundEntry {
-                key,
-                value,
+                tree,
                 binds: more,
                 at: next,
             } = self.entry(skip(self.tokens, at))?;
-            items.push((key, value))?;
+            items.push(tree)?;
             binds = binds | more;
             at = next;
         }

@@ -7,7 +7,7 @@ ghost use Rattle.gd_syntax.specs.TokenReading.{IsEnded, mark_at, place_at};
 ghost use Rattle.gd_syntax.specs.MemberGrammar.{is_field_annotation};
 ghost use Rattle.gd_syntax.specs.ScriptGrammar as spec;
 ghost use Rattle.gd_syntax.specs.declared.tree.member.Script.{Script};
-ghost use Rattle.gd_parser.specs.Files.{anywhere, heads_of, head, line_name, name_refused, base_refused, IsTold, IsParsed, GivesTree};
+ghost use Rattle.gd_parser.specs.Files.{anywhere, heads_of, head, line_name, name_refused, base_refused, HasFlags, IsParsed, GivesTree};
 
 use crate::classes::{FoundMembers, member_list};
 use crate::declarations::{Owner, annot, is_field_word, is_head_word, new_name};
@@ -67,9 +67,9 @@ fn is_based(heads: &Items<Head>) -> bool
 
 /// The heads with one more annotation. One of a file that nothing stands before is a head.
 fn with_annotation(sofar: FoundHeads, a: Annotation) -> Result<FoundHeads, AllocError>
-    requires told { IsTold sofar }
+    requires flags { HasFlags sofar }
     ensures heads { IfOk result (λ all. heads_of all ≡ spec.with_annotation sofar.heads sofar.behind.items a) }
-    ensures told { IfOk result IsTold }
+    ensures flags { IfOk result HasFlags }
 {
     let FoundHeads {
         mut heads,
@@ -111,7 +111,7 @@ fn with_annotations(heads: Items<Head>, behind: Vec<Annotation>) -> Result<Items
 /// The heads with one more, which stands behind the annotations.
 fn with_head(alloc: Global, sofar: FoundHeads, head: Head) -> Result<FoundHeads, AllocError>
     ensures heads { IfOk result (λ all. heads_of all ≡ spec.with_head (heads_of sofar) head) }
-    ensures told { IfOk result IsTold }
+    ensures flags { IfOk result HasFlags }
 {
     let FoundHeads { heads, behind, .. } = sofar;
     let mut all = with_annotations(heads, behind)?;
@@ -144,7 +144,7 @@ fn name_on_line(
 }
 
 /// `extends` and its base behind a name, which may be missing, and are where the file has a base.
-fn optional_base(
+fn class_name_base(
     alloc: Global,
     tokens: &[Token],
     at: usize,
@@ -182,7 +182,7 @@ fn class_name(
 {
     let place = place_at(tokens, at);
     let (name, next) = name_on_line(tokens, skip(tokens, at), place)?;
-    let (tree, end) = optional_base(alloc, tokens, next, based)?;
+    let (tree, end) = class_name_base(alloc, tokens, next, based)?;
     let line = due(tokens, end, Sought::Other, Mark::Newline)?;
     Ok((Head::ClassName(place, name, tree), line))
 }
@@ -205,7 +205,7 @@ fn extends(alloc: Global, tokens: &[Token], at: usize) -> Result<(Head, usize), 
 /// Whether no `class_name` may stand there.
 fn refuses_name(tokens: &[Token], at: usize, header_end: Place, sofar: &FoundHeads) -> bool
     requires within { at < length tokens.now }
-    requires told { IsTold sofar.now }
+    requires flags { HasFlags sofar.now }
     ensures { result ≡ name_refused tokens.now header_end sofar.now at }
 {
     let is_known = is_before(place_at(tokens, at), header_end);
@@ -214,7 +214,7 @@ fn refuses_name(tokens: &[Token], at: usize, header_end: Place, sofar: &FoundHea
 
 /// Whether no `extends` may stand there.
 fn refuses_base(sofar: &FoundHeads) -> bool
-    requires told { IsTold sofar.now }
+    requires flags { HasFlags sofar.now }
     ensures { result ≡ base_refused sofar.now }
 {
     sofar.behind_field || is_based(&sofar.heads)
@@ -229,14 +229,17 @@ fn annotation_head(
 ) -> Result<(FoundHeads, usize), SolveError>
     requires within { at < length tokens.now }
     requires ended { IsEnded tokens.now }
-    requires told { IsTold sofar }
+    requires flags { HasFlags sofar }
     requires begins { mark_at tokens.now at ≡ Some Mark.At }
     ensures reads { Answers (λ found. Read (On (heads_of found.0)) found.1) result (spec.head_by tokens.now anywhere (heads_of sofar) (token.place_at tokens.now at) true (Some Mark.At) at) }
-    ensures told { IfOk result (λ found. IsTold found.0) }
+    ensures flags { IfOk result (λ found. HasFlags found.0) }
     ensures within { IfOk result (λ found. found.1 < length tokens.now) }
     ensures after { IfOk result (λ found. at < found.1) }
 {
-    let owner = Owner::File(sofar.behind_field, sofar.behind_head);
+    let owner = Owner::File {
+        behind_field: sofar.behind_field,
+        behind_head: sofar.behind_head,
+    };
     let (tree, next) = annot(alloc, tokens, at, owner)?;
     let more = with_annotation(sofar, tree)?;
     Ok((more, next))
@@ -252,10 +255,10 @@ fn name_head(
 ) -> Result<(FoundHeads, usize), SolveError>
     requires within { at < length tokens.now }
     requires ended { IsEnded tokens.now }
-    requires told { IsTold sofar }
+    requires flags { HasFlags sofar }
     requires begins { mark_at tokens.now at ≡ Some Mark.ClassName }
     ensures reads { Answers (λ found. Read (On (heads_of found.0)) found.1) result (head tokens.now header_end (heads_of sofar) at) }
-    ensures told { IfOk result (λ found. IsTold found.0) }
+    ensures flags { IfOk result (λ found. HasFlags found.0) }
     ensures within { IfOk result (λ found. found.1 < length tokens.now) }
     ensures after { IfOk result (λ found. at < found.1) }
 {
@@ -277,10 +280,10 @@ fn base_head(
 ) -> Result<(FoundHeads, usize), SolveError>
     requires within { at < length tokens.now }
     requires ended { IsEnded tokens.now }
-    requires told { IsTold sofar }
+    requires flags { HasFlags sofar }
     requires begins { mark_at tokens.now at ≡ Some Mark.Extends }
     ensures reads { Answers (λ found. Read (On (heads_of found.0)) found.1) result (spec.head_by tokens.now anywhere (heads_of sofar) (token.place_at tokens.now at) true (Some Mark.Extends) at) }
-    ensures told { IfOk result (λ found. IsTold found.0) }
+    ensures flags { IfOk result (λ found. HasFlags found.0) }
     ensures within { IfOk result (λ found. found.1 < length tokens.now) }
     ensures after { IfOk result (λ found. at < found.1) }
 {
@@ -315,10 +318,10 @@ fn one_head(
 ) -> Result<(FoundHeads, usize), SolveError>
     requires within { at < length tokens.now }
     requires ended { IsEnded tokens.now }
-    requires told { IsTold sofar }
+    requires flags { HasFlags sofar }
     requires begins { mark_at tokens.now at ≢ Some Mark.At → mark_at tokens.now at ≢ Some Mark.ClassName → mark_at tokens.now at ≡ Some Mark.Extends }
     ensures reads { Answers (λ found. Read (On (heads_of found.0)) found.1) result (head tokens.now header_end (heads_of sofar) at) }
-    ensures told { IfOk result (λ found. IsTold found.0) }
+    ensures flags { IfOk result (λ found. HasFlags found.0) }
     ensures within { IfOk result (λ found. found.1 < length tokens.now) }
     ensures after { IfOk result (λ found. at < found.1) }
 {
@@ -339,7 +342,7 @@ fn all_heads(
 ) -> Result<(FoundHeads, usize), SolveError>
     requires ended { IsEnded tokens.now }
     ensures reads { Answers (λ found. Read (heads_of found.0) found.1) result (Loop (head tokens.now header_end) ([], []) 0) }
-    ensures told { IfOk result (λ found. IsTold found.0) }
+    ensures flags { IfOk result (λ found. HasFlags found.0) }
     ensures within { IfOk result (λ found. found.1 < length tokens.now) }
 {
     let mut sofar = FoundHeads {
@@ -378,7 +381,7 @@ fn first_member(
 ) -> Result<(Items<Member>, usize), SolveError>
     requires within { at < length tokens.now }
     requires ended { IsEnded tokens.now }
-    requires told { behind_head ≡ list_any spec.is_head_annotation behind }
+    requires flags { behind_head ≡ list_any spec.is_head_annotation behind }
     ensures reads { Answers (λ found. Read found.0 found.1) result (spec.first_member tokens.now anywhere behind at) }
     ensures within { IfOk result (λ found. found.1 < length tokens.now) }
 {
@@ -446,7 +449,7 @@ fn with_first_member(
 ) -> Result<(Script, usize), SolveError>
     requires within { at < length tokens.now }
     requires ended { IsEnded tokens.now }
-    requires told { IsTold sofar }
+    requires flags { HasFlags sofar }
     ensures reads { Answers (λ found. Read found.0 found.1) result (spec.file_by tokens.now anywhere (token.place_at tokens.now 0) (heads_of sofar) true at) }
 {
     let FoundHeads {
@@ -469,7 +472,7 @@ fn without_first_member(
 ) -> Result<(Script, usize), SolveError>
     requires within { at < length tokens.now }
     requires ended { IsEnded tokens.now }
-    requires told { IsTold sofar }
+    requires flags { HasFlags sofar }
     ensures reads { Answers (λ found. Read found.0 found.1) result (spec.file_by tokens.now anywhere (token.place_at tokens.now 0) (heads_of sofar) false at) }
 {
     let FoundHeads {

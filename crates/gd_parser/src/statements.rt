@@ -6,10 +6,11 @@ ghost use Rattle.gd_syntax.specs.StatementGrammar as grammar;
 ghost use Rattle.gd_parser.specs.BlockForms as spec;
 
 use crate::declarations::{Owner, annots, const_, expr, var};
+use crate::lists::one;
 use gd_exprs::reader::{due, mark_at, place_at, refuse, sees, skip};
 use gd_syntax::{Annotation, AssignOp, Expr, Mark, Place, Simple, SolveError, Sought, Stmt, Token};
 use std::alloc::Global;
-use tree_lists::{Boxed, Items};
+use tree_lists::Items;
 
 /// Whether a value may be assigned to the expression.
 #[tactic(auto, using(gd_syntax::proofs::Targets::target_laws))]
@@ -125,10 +126,9 @@ fn assertion(
 {
     let start = due(tokens, skip(tokens, at), Sought::Other, Mark::LParen)?;
     let (condition, middle) = expr(alloc, tokens, start)?;
-    let boxed = Boxed::new(alloc, condition)?;
     let (text, end) = message(alloc, tokens, middle)?;
     let next = due(tokens, end, Sought::Other, Mark::RParen)?;
-    Ok((Simple::Assert(place, boxed.into_inner(), text), next))
+    Ok((Simple::Assert(place, condition, text), next))
 }
 
 /// The value of an assignment, behind its operator.
@@ -137,7 +137,7 @@ fn assigned(
     tokens: &[Token],
     at: usize,
     place: Place,
-    target: Boxed<Expr>,
+    target: Expr,
     op: AssignOp,
 ) -> Result<(Simple, usize), SolveError>
     requires within { at < length tokens.now }
@@ -148,8 +148,7 @@ fn assigned(
     ensures after { IfOk result (λ found. at < found.1) }
 {
     let (value, next) = expr(alloc, tokens, skip(tokens, at))?;
-    let tree = Simple::Assign(place, target.into_inner(), op, value);
-    Ok((tree, next))
+    Ok((Simple::Assign(place, target, op, value), next))
 }
 
 /// An expression, or an assignment to it.
@@ -167,10 +166,7 @@ fn assignment(
 {
     let (target, next) = expr(alloc, tokens, at)?;
     match assign_op_after(&target, mark_at(tokens, next)) {
-        Some(op) => {
-            let target = Boxed::new(alloc, target)?;
-            assigned(alloc, tokens, next, place, target, op)
-        }
+        Some(op) => assigned(alloc, tokens, next, place, target, op),
         None => Ok((Simple::Expr(place, target), next)),
     }
 }
@@ -272,31 +268,62 @@ fn simple(alloc: Global, tokens: &[Token], at: usize) -> Result<(Simple, usize),
     }
 }
 
-/// The statements of a line up to its end, which may follow the last `;`.
-pub fn line(
+/// The further statements of a line, up to its end or the `;` before it.
+fn further(
     alloc: Global,
     tokens: &[Token],
     start: usize,
-) -> Result<(Items<Stmt>, usize), SolveError>
+    first: Items<Simple>,
+) -> Result<(Items<Simple>, usize), SolveError>
+    requires within { start < length tokens.now }
+    requires ended { IsEnded tokens.now }
+    ensures reads { Answers (λ found. Read found.0 found.1) result (Loop (spec.line_turn tokens.now) first start) }
+    ensures within { IfOk result (λ found. found.1 < length tokens.now) }
+    ensures after { IfOk result (λ found. start ≤ found.1) }
+{
+    let mut all = first;
+    let mut at = start;
+    'statements: while sees(tokens, at, Mark::Semicolon) {
+        at = skip(tokens, at);
+        if sees(tokens, at, Mark::Newline) {
+            return Ok((all, at));
+        }
+        let (tree, next) = simple(alloc, tokens, at)?;
+        all.push(tree)?;
+        at = next;
+    }
+    Ok((all, at))
+}
+
+/// The simple statements of a line up to its end, which may follow the last `;`.
+pub fn line(alloc: Global, tokens: &[Token], start: usize) -> Result<(Stmt, usize), SolveError>
     requires within { start < length tokens.now }
     requires ended { IsEnded tokens.now }
     ensures reads { Answers (λ found. Read found.0 found.1) result (grammar.line tokens.now start) }
     ensures within { IfOk result (λ found. found.1 < length tokens.now) }
     ensures after { IfOk result (λ found. start < found.1) }
 {
+    let place = place_at(tokens, start);
     let (tree, next) = simple(alloc, tokens, start)?;
-    let mut all = Items::new(alloc);
-    all.push(Stmt::Simple(tree))?;
-    let mut at = next;
-    'statements: while sees(tokens, at, Mark::Semicolon) {
-        at = skip(tokens, at);
-        if sees(tokens, at, Mark::Newline) {
-            return Ok((all, skip(tokens, at)));
-        }
-        let (tree, next) = simple(alloc, tokens, at)?;
-        all.push(Stmt::Simple(tree))?;
-        at = next;
-    }
+    let first = one(alloc, tree)?;
+    let (all, at) = further(alloc, tokens, next, first)?;
     let end = due(tokens, at, Sought::Other, Mark::Newline)?;
+    Ok((Stmt::Line(place, all), end))
+}
+
+/// A line as a block.
+pub fn line_block(
+    alloc: Global,
+    tokens: &[Token],
+    at: usize,
+) -> Result<(Items<Stmt>, usize), SolveError>
+    requires within { at < length tokens.now }
+    requires ended { IsEnded tokens.now }
+    ensures reads { Answers (λ found. Read found.0 found.1) result (grammar.line_block tokens.now at) }
+    ensures within { IfOk result (λ found. found.1 < length tokens.now) }
+    ensures after { IfOk result (λ found. at < found.1) }
+{
+    let (tree, end) = line(alloc, tokens, at)?;
+    let all = one(alloc, tree)?;
     Ok((all, end))
 }

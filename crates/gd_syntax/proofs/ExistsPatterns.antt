@@ -13,7 +13,7 @@ use Rattle.gd_syntax.specs.declared.tree.pattern.Pattern.{Pattern}
 use Rattle.gd_syntax.specs.Reading.{Outcome, Read, Stops, Reading, Then, Look}
 use Rattle.gd_syntax.specs.declared.stops.Sought.TheVariants.{Other}
 use Rattle.gd_syntax.specs.TokenReading.{kind_at, mark_of, mark_at, place_at, fault_at, any_name, plain_name, literal_of}
-use Rattle.gd_syntax.specs.PatternGrammar.{is_when, goes_on as is_further, more, more_by, items_by, rest_by, open_list, names_by, path, key_by, entry_by, entry_pattern, other_pattern_by, pattern_by, finished, pattern_form, pattern}
+use Rattle.gd_syntax.specs.PatternGrammar.{is_when, goes_on as is_further, more, more_by, items_by, rest_by, open_list, names_by, path, key_by, value_by, entry_at, entry_pattern, other_pattern_by, pattern_by, finished, pattern_form, pattern}
 use Rattle.gd_syntax.proofs.Exists.{Reads, Takes, Moves, taken, reads_then, takes, reads, sound_look, sound_stops, sound_at, sound_refuse, reads_give, reads_fits, goes_on, ends, moves_look, Starts, starts_then, starts_look, starts_stops, starts_one, Ends, ends_look, reads_loop, takes_skip, takes_due, takes_one, takes_identifier}
 
 module _ (tokens : List Token) where
@@ -58,12 +58,13 @@ module _ (tokens : List Token) where
     takes_key_by (Some value) = takes _ _ (reads_fits tokens room 2) (λ _. taken _ _ (takes_skip tokens) (λ _. reads_give _))
     takes_key_by None = sound_refuse tokens 1 Other
 
-    reads_entry_by : (key : Literal) (k : Option Mark) → Reads (entry_by tokens room inner key k)
-    reads_entry_by key (Some m.Colon) = reads _ (taken _ _ (takes_skip tokens) (λ _. reads _ (taken _ _ i (λ x. reads_give _))))
-    reads_entry_by key _ = reads_give _
+    reads_value_by : (k : Option Mark) → Reads (value_by tokens room inner k)
+    reads_value_by (Some m.Colon) = reads _ (taken _ _ (takes_skip tokens) (λ _. reads _ (taken _ _ i (λ x. reads_give _))))
+    reads_value_by _ = reads_give _
 
     takes_entry : Takes (entry_pattern tokens room inner)
-    takes_entry = taken _ _ (sound_look 1 _ _ takes_key_by) (λ key. sound_look 0 _ _ (reads_entry_by key))
+    takes_entry = sound_at 1 (λ place. entry_at tokens room inner (place_at tokens place))
+        (λ at. taken _ _ (sound_look 1 _ _ takes_key_by) (λ key. reads_then _ _ (sound_look 0 _ _ reads_value_by) (λ x. reads_give _)))
 
     pub takes_other_by : (place : Place) (k : Kind) → Takes (other_pattern_by tokens room inner place k)
     takes_other_by place (Marked m.Var) = taken _ _ (takes_skip tokens) (λ _. reads _ (taken _ _ (takes_identifier tokens) (λ name. reads_give _)))

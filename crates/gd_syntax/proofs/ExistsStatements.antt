@@ -18,7 +18,7 @@ use Rattle.gd_syntax.specs.declared.stops.Sought.TheVariants.{Other}
 use Rattle.gd_syntax.specs.TokenReading.{max_levels, literal_of, kind_at, mark_at, place_at}
 use Rattle.gd_syntax.specs.PatternGrammar.{finished}
 use Rattle.gd_syntax.specs.DeclarationGrammar.{is_ignore_word}
-use Rattle.gd_syntax.specs.StatementGrammar.{binds, unbound_other_by, unbound_by, unbound_form, unbound, pats_by, pats, word, return_by, message_by, assertion, assign_by, assignment, local_var, annotated_by, simple_by, simple, parted_by, line_by, line, branch, elif_by, else_by, if_stmt, for_stmt, while_stmt, match_by, match_stmt, stmt_by, stmt, body_by, block_by, block}
+use Rattle.gd_syntax.specs.StatementGrammar.{binds, unbound_other_by, unbound_by, unbound_form, unbound, pats_by, pats, word, return_by, message_by, assertion, assign_by, assignment, local_var, annotated_by, simple_by, simple, parted_by, line_by, line_form, line, line_block, branch, elif_by, else_by, if_stmt, for_stmt, while_stmt, match_by, match_stmt, stmt_by, stmt, body_by, block_by, block}
 use Rattle.gd_syntax.proofs.Exists.{Reads, Takes, Moves, taken, reads_then, takes, reads, sound_look, sound_either, sound_stops, sound_at, sound_refuse, reads_give, goes_on, ends, moves_look, Starts, starts_then, starts_mark, ends_mark, reads_loop, takes_skip, takes_due}
 use Rattle.gd_syntax.proofs.ExistsPatterns.{takes_other_by, reads_finished, takes_pattern, starts_pattern}
 use Rattle.gd_syntax.proofs.ExistsDeclarations.{past, form_expr, takes_expr, takes_new_name, reads_type_by, reads_annots, takes_var, takes_const}
@@ -105,9 +105,18 @@ module _ (tokens : List Token) where
   moves_line_by sofar (Some m.Semicolon) = goes_on _ (taken _ _ (takes_skip tokens) (λ _. sound_look 0 _ _ (reads_parted_by sofar)))
   moves_line_by sofar _ = ends sofar
 
-  takes_line : Takes (line tokens)
-  takes_line = taken _ _ takes_simple (λ first. reads_then _ _ (reads_loop tokens _ (λ sofar. moves_look _ _ (moves_line_by sofar))
+  takes_line_form : (place : Place) → Takes (line_form tokens place)
+  takes_line_form place = taken _ _ takes_simple (λ first. reads_then _ _ (reads_loop tokens _ (λ sofar. moves_look _ _ (moves_line_by sofar))
       (λ sofar. ends_mark tokens (line_by tokens sofar) (λ at next b i e. cc e)) (first ∷ [])) (λ all. reads _ (taken _ _ (takes_due tokens Other m.Newline) (λ _. reads_give _))))
+
+  takes_line : Takes (line tokens)
+  takes_line = sound_at 1 (λ at. line_form tokens (place_at tokens at)) (λ at. takes_line_form (place_at tokens at))
+
+  takes_line_block : Takes (line_block tokens)
+  takes_line_block = taken _ _ takes_line (λ x. reads_give _)
+
+  starts_line : Starts tokens (line tokens)
+  starts_line at = starts_then tokens _ _ starts_simple at
 
   module _ (inner : Reading (List Stmt)) (i : Takes inner) where
     takes_branch : Takes (branch tokens inner)
@@ -144,27 +153,27 @@ module _ (tokens : List Token) where
         (λ all. reads _ (taken _ _ (takes_due tokens Other m.Dedent) (λ _. reads_give _)))))))))))
 
     takes_stmt_by : (place : Place) (k : Option Mark) → Takes (stmt_by tokens inner place k)
-    takes_stmt_by place (Some m.If) = taken _ _ (takes_if place) (λ x. reads_give _)
-    takes_stmt_by place (Some m.For) = taken _ _ (takes_for place) (λ x. reads_give _)
-    takes_stmt_by place (Some m.While) = taken _ _ (takes_while place) (λ x. reads_give _)
-    takes_stmt_by place (Some m.Match) = taken _ _ (takes_match place) (λ x. reads_give _)
+    takes_stmt_by place (Some m.If) = takes_if place
+    takes_stmt_by place (Some m.For) = takes_for place
+    takes_stmt_by place (Some m.While) = takes_while place
+    takes_stmt_by place (Some m.Match) = takes_match place
     takes_stmt_by place _ = takes_line
 
     takes_stmt : Takes (stmt tokens inner)
     takes_stmt = sound_at 1 (λ place. Look (mark_at tokens) (stmt_by tokens inner (place_at tokens place))) (λ at. sound_look 1 _ _ (takes_stmt_by (place_at tokens at)))
 
     starts_stmt : Starts tokens (stmt tokens inner)
-    starts_stmt at = starts_mark tokens (stmt_by tokens inner (place_at tokens at)) (starts_then tokens _ _ starts_simple) at
+    starts_stmt at = starts_mark tokens (stmt_by tokens inner (place_at tokens at)) starts_line at
 
     moves_body_by : (sofar : List Stmt) (k : Option Mark) → Moves (body_by tokens inner sofar k)
     moves_body_by sofar (Some m.Dedent) = ends sofar
-    moves_body_by sofar _ = goes_on _ (taken _ _ takes_stmt (λ all. reads_give _))
+    moves_body_by sofar _ = goes_on _ (taken _ _ takes_stmt (λ x. reads_give _))
 
     takes_block_by : (k : Option Mark) → Takes (block_by tokens inner k)
     takes_block_by (Some m.Newline) = past tokens _ (taken _ _ (takes_due tokens Other m.Indent) (λ _. reads_then _ _ (reads_loop tokens _ (λ sofar. moves_look _ _ (moves_body_by sofar))
         (λ sofar. ends_mark tokens (body_by tokens inner sofar) (λ at next b z h. starts_then tokens _ _ starts_stmt at next _ z h)) [])
         (λ all. reads _ (taken _ _ (takes_due tokens Other m.Dedent) (λ _. reads_give _)))))
-    takes_block_by _ = takes_line
+    takes_block_by _ = takes_line_block
 
   pub takes_block : (room : ℕ) → Takes (block tokens room)
   unfolding block

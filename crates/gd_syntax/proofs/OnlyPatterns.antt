@@ -11,7 +11,7 @@ use Rattle.gd_syntax.specs.declared.tree.pattern.Pattern.{Pattern}
 use Rattle.gd_syntax.specs.Reading.{Reading}
 use Rattle.gd_syntax.specs.declared.stops.Sought.TheVariants.{Other}
 use Rattle.gd_syntax.specs.TokenReading.{place_at, any_name, plain_name, literal_of}
-use Rattle.gd_syntax.specs.PatternGrammar.{more, more_by, items_by, rest_by, open_list, names_by, path, key_by, entry_by, entry_pattern, other_pattern_by, pattern_by, pattern_form, pattern}
+use Rattle.gd_syntax.specs.PatternGrammar.{more, more_by, items_by, rest_by, open_list, names_by, path, key_by, value_by, entry_pattern, other_pattern_by, pattern_by, pattern_form, pattern}
 use Rattle.gd_syntax.proofs.Only.{Only, only_is, only_then, only_look, only_loop, only_skip, only_due, only_one, only_identifier}
 
 module _ (tokens : List Token) where
@@ -49,12 +49,12 @@ module _ (tokens : List Token) where
     only_key_by (Some value) = only_then _ _ (only_is _) (λ _. only_then _ _ (only_skip tokens) (λ _. only_is _))
     only_key_by None = only_is _
 
-    only_entry_by : (key : Literal) (k : Option Mark) → Only (entry_by tokens room inner key k)
-    only_entry_by key (Some m.Colon) = only_then _ _ (only_skip tokens) (λ _. only_then _ _ i (λ x. only_is _))
-    only_entry_by key _ = only_is _
+    only_value_by : (k : Option Mark) → Only (value_by tokens room inner k)
+    only_value_by (Some m.Colon) = only_then _ _ (only_skip tokens) (λ _. only_then _ _ i (λ x. only_is _))
+    only_value_by _ = only_is _
 
     only_entry : Only (entry_pattern tokens room inner)
-    only_entry = only_then _ _ (only_look _ _ only_key_by) (λ key. only_look _ _ (only_entry_by key))
+    only_entry at = only_then _ _ (only_look _ _ only_key_by) (λ key. only_then _ _ (only_look _ _ only_value_by) (λ x. only_is _)) at
 
     pub only_other_by : (place : Place) (k : Kind) → Only (other_pattern_by tokens room inner place k)
     only_other_by place (Marked m.Var) = only_then _ _ (only_skip tokens) (λ _. only_then _ _ (only_identifier tokens) (λ name. only_is _))

@@ -17,7 +17,7 @@ use Rattle.gd_syntax.specs.Reading.{Reading}
 use Rattle.gd_syntax.specs.declared.stops.Sought.TheVariants.{Other}
 use Rattle.gd_syntax.specs.TokenReading.{max_levels, place_at}
 use Rattle.gd_syntax.specs.DeclarationGrammar.{is_ignore_word}
-use Rattle.gd_syntax.specs.StatementGrammar.{binds, unbound_other_by, unbound_by, unbound_form, unbound, pats_by, pats, word, return_by, message_by, assertion, assign_by, assignment, local_var, annotated_by, simple_by, simple, parted_by, line_by, line, branch, elif_by, else_by, if_stmt, for_stmt, while_stmt, match_by, match_stmt, stmt_by, stmt, body_by, block_by, block}
+use Rattle.gd_syntax.specs.StatementGrammar.{binds, unbound_other_by, unbound_by, unbound_form, unbound, pats_by, pats, word, return_by, message_by, assertion, assign_by, assignment, local_var, annotated_by, simple_by, simple, parted_by, line_by, line_form, line, line_block, branch, elif_by, else_by, if_stmt, for_stmt, while_stmt, match_by, match_stmt, stmt_by, stmt, body_by, block_by, block}
 use Rattle.gd_syntax.proofs.Only.{Only, only_is, only_then, only_look, only_loop, only_either, only_skip, only_due}
 use Rattle.gd_syntax.proofs.OnlyPatterns.{only_other_by, only_pattern}
 use Rattle.gd_syntax.proofs.OnlyDeclarations.{only_expr, only_new_name, only_type_by, only_annots, only_var, only_const}
@@ -99,9 +99,15 @@ module _ (tokens : List Token) where
   only_line_by sofar (Some m.Semicolon) = only_then _ _ (only_skip tokens) (λ _. only_look _ _ (only_parted_by sofar))
   only_line_by sofar _ = only_is _
 
-  only_line : Only (line tokens)
-  only_line = only_then _ _ only_simple (λ first. only_then _ _ (only_loop _ (λ sofar. only_look _ _ (only_line_by sofar)) (first ∷ []))
+  only_line_form : (place : Place) → Only (line_form tokens place)
+  only_line_form place = only_then _ _ only_simple (λ first. only_then _ _ (only_loop _ (λ sofar. only_look _ _ (only_line_by sofar)) (first ∷ []))
       (λ all. only_then _ _ (only_due tokens Other m.Newline) (λ _. only_is _)))
+
+  only_line : Only (line tokens)
+  only_line at = only_line_form (place_at tokens at) at
+
+  only_line_block : Only (line_block tokens)
+  only_line_block = only_then _ _ only_line (λ x. only_is _)
 
   module _ (inner : Reading (List Stmt)) (i : Only inner) where
     only_branch : Only (branch tokens inner)
@@ -136,10 +142,10 @@ module _ (tokens : List Token) where
         (λ all. only_then _ _ (only_due tokens Other m.Dedent) (λ _. only_is _)))))))
 
     only_stmt_by : (place : Place) (k : Option Mark) → Only (stmt_by tokens inner place k)
-    only_stmt_by place (Some m.If) = only_then _ _ (only_if place) (λ x. only_is _)
-    only_stmt_by place (Some m.For) = only_then _ _ (only_for place) (λ x. only_is _)
-    only_stmt_by place (Some m.While) = only_then _ _ (only_while place) (λ x. only_is _)
-    only_stmt_by place (Some m.Match) = only_then _ _ (only_match place) (λ x. only_is _)
+    only_stmt_by place (Some m.If) = only_if place
+    only_stmt_by place (Some m.For) = only_for place
+    only_stmt_by place (Some m.While) = only_while place
+    only_stmt_by place (Some m.Match) = only_match place
     only_stmt_by place _ = only_line
 
     only_stmt : Only (stmt tokens inner)
@@ -147,12 +153,12 @@ module _ (tokens : List Token) where
 
     only_body_by : (sofar : List Stmt) (k : Option Mark) → Only (body_by tokens inner sofar k)
     only_body_by sofar (Some m.Dedent) = only_is _
-    only_body_by sofar _ = only_then _ _ only_stmt (λ all. only_is _)
+    only_body_by sofar _ = only_then _ _ only_stmt (λ x. only_is _)
 
     only_block_by : (k : Option Mark) → Only (block_by tokens inner k)
     only_block_by (Some m.Newline) = only_then _ _ (only_skip tokens) (λ _. only_then _ _ (only_due tokens Other m.Indent)
         (λ _. only_then _ _ (only_loop _ (λ sofar. only_look _ _ (only_body_by sofar)) []) (λ all. only_then _ _ (only_due tokens Other m.Dedent) (λ _. only_is _))))
-    only_block_by _ = only_line
+    only_block_by _ = only_line_block
 
   pub only_block : (room : ℕ) → Only (block tokens room)
   unfolding block

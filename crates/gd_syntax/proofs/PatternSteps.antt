@@ -6,11 +6,10 @@ use Rattle.gd_syntax.specs.declared.token.Kind.{Kind}
 use Rattle.gd_syntax.specs.declared.token.Kind.TheVariants.{Mark as Marked}
 use Rattle.gd_syntax.specs.declared.token.Mark.{Mark}
 use Rattle.gd_syntax.specs.declared.token.Mark.TheVariants as m
-use Rattle.gd_syntax.specs.declared.tree.expr.Literal.{Literal}
 use Rattle.gd_syntax.specs.declared.tree.pattern.Pattern.{Pattern}
 use Rattle.gd_syntax.specs.Reading.{Outcome, Read, Reading, Look, looks, Turn, Last}
 use Rattle.gd_syntax.specs.TokenReading.{kind_at, mark_at}
-use Rattle.gd_syntax.specs.PatternGrammar.{rest_by, names_by, entry_by, path, other_pattern_by, pattern_form, full_pattern, pattern}
+use Rattle.gd_syntax.specs.PatternGrammar.{rest_by, names_by, value_by, path, other_pattern_by, pattern_form, full_pattern, pattern}
 
 module _ (tokens : List Token) where
   rest_none_by : (k : Option Mark) (at : ℕ) (o : Outcome Bool) → k ≢ Some m.Comma → k ≢ Some m.DotDot → o ≡ Read false at → rest_by tokens k at o
@@ -29,12 +28,12 @@ module _ (tokens : List Token) where
     pub names_none : (sofar : List (List ℕ)) (at : ℕ) → mark_at tokens at ≢ Some m.Dot → Look (mark_at tokens) (names_by tokens room inner sofar) at (Read (Last sofar) at)
     names_none sofar at x = looks refl (names_none_by sofar (mark_at tokens at) at _ x refl)
 
-    entry_none_by : (key : Literal) (k : Option Mark) (at : ℕ) (o : Outcome (Literal × Option Pattern)) → k ≢ Some m.Colon → o ≡ Read (key, None) at → entry_by tokens room inner key k at o
-    entry_none_by key (Some m.Colon) at o x h = absurd (x refl)
-    entry_none_by key _ at o x h = h
+    value_none_by : (k : Option Mark) (at : ℕ) (o : Outcome (Option Pattern)) → k ≢ Some m.Colon → o ≡ Read None at → value_by tokens room inner k at o
+    value_none_by (Some m.Colon) at o x h = absurd (x refl)
+    value_none_by _ at o x h = h
 
-    pub entry_none : (key : Literal) (at : ℕ) → mark_at tokens at ≢ Some m.Colon → Look (mark_at tokens) (entry_by tokens room inner key) at (Read (key, None) at)
-    entry_none key at x = looks refl (entry_none_by key (mark_at tokens at) at _ x refl)
+    pub value_none : (at : ℕ) → mark_at tokens at ≢ Some m.Colon → Look (mark_at tokens) (value_by tokens room inner) at (Read None at)
+    value_none at x = looks refl (value_none_by (mark_at tokens at) at _ x refl)
 
     path_pattern_none_by : (place : Place) (k : Kind) (at : ℕ) (o : Outcome Pattern) → k ≢ Marked m.Var → k ≢ Marked m.Minus → k ≢ Marked m.LBracket → k ≢ Marked m.LBrace
         → path tokens room inner place at o → other_pattern_by tokens room inner place k at o

@@ -70,15 +70,15 @@ ignored_by_func : script before_func (spot 2 1) 0 (Read (record {
     name = record { place = spot 1 5; name = f };
     params = [];
     result = None;
-    body = s.Simple (simply.Pass (spot 1 9)) ∷ s.Simple (simply.Return (spot 1 11) None) ∷ [];
+    body = s.Line (spot 1 9) (simply.Pass (spot 1 9) ∷ simply.Return (spot 1 11) None ∷ []) ∷ [];
   }) ∷ [];
 }) 13)
 unfolding kind_at place_at
 ignored_by_func = goes (Loop.on (looks refl (goes (goes refl (goes (OneOf.found refl) (goes (looks refl refl) (goes (looks refl refl) refl)))) refl)) (Loop.last (looks refl refl)))
     (looks refl (goes (goes (looks refl (goes refl (goes
     (goes (goes (OneOf.found refl) refl) (goes (Due.found refl) (goes (goes (Loop.last (looks refl refl)) (goes (Due.found refl) refl)) (goes (looks refl refl) (goes (Due.found refl) (goes
-    (block_is before_func 127 8 _ (looks refl (goes (looks refl (goes refl refl)) (goes
-    (Loop.on (looks refl (goes refl (looks refl (goes (looks refl (goes refl (looks refl refl))) refl)))) (Loop.last (looks refl refl))) (goes (Due.found refl) refl)))))
+    (block_is before_func 127 8 _ (looks refl (goes (goes (looks refl (goes refl refl)) (goes
+    (Loop.on (looks refl (goes refl (looks refl (goes (looks refl (goes refl (looks refl refl))) refl)))) (Loop.last (looks refl refl))) (goes (Due.found refl) refl))) refl)))
     refl)))))) refl))) refl) (goes (Loop.last (looks refl refl)) (goes (Due.found refl) refl))))
 
 -- before an enum it is a head
@@ -162,7 +162,7 @@ nested = row 1 1 (Marked m.Class ∷ Name f ∷ Marked m.Colon ∷ Marked m.Newl
 inner_class : script nested (spot 2 1) 0 (Read (record {
   place = spot 1 1;
   heads = [];
-  members = member.Class (spot 1 1) (record { place = spot 1 2; name = f }) None (member.Pass (spot 1 6) ∷ []) ∷ [];
+  members = member.Class (record { place = spot 1 1; name = record { place = spot 1 2; name = f }; base = None; members = member.Pass (spot 1 6) ∷ [] }) ∷ [];
 }) 9)
 unfolding kind_at place_at
 inner_class = goes (Loop.last (looks refl refl)) (looks refl (goes refl (goes (Loop.on (looks refl (goes refl (goes (looks refl (goes refl (goes refl (goes (goes (OneOf.found refl) refl) (goes (looks refl refl)
@@ -185,7 +185,7 @@ local_export = row 1 1 (Marked m.At ∷ Name (codes "export") ∷ Marked m.Var �
 
 no_local_export : block local_export 128 0 (Stops (record { kind = Unsupported form.Annotation; place = spot 1 2 }))
 unfolding kind_at place_at refusal
-no_local_export = block_is local_export 127 0 _ (looks refl (halts (looks refl (halts (Loop.stop (looks refl (halts (goes refl (halts (OneOf.missing refl))))))))))
+no_local_export = block_is local_export 127 0 _ (looks refl (halts (halts (looks refl (halts (Loop.stop (looks refl (halts (goes refl (halts (OneOf.missing refl)))))))))))
 
 -- a `:` behind the type of a variable would begin a property
 abbrev with_property : List Token
@@ -193,9 +193,9 @@ with_property = row 1 1 (Marked m.Var ∷ Name f ∷ Marked m.Colon ∷ Name f �
 
 no_property : block with_property 128 0 (Stops (record { kind = Unsupported form.Property; place = spot 1 5 }))
 unfolding kind_at place_at refusal
-no_property = block_is with_property 127 0 _ (looks refl (halts (looks refl (halts (goes refl (goes (goes (OneOf.found refl) refl) (goes
+no_property = block_is with_property 127 0 _ (looks refl (halts (halts (looks refl (halts (goes refl (goes (goes (OneOf.found refl) refl) (goes
     (looks refl (goes (looks refl (goes refl (goes (goes (OneOf.found refl) (goes (Loop.last (looks refl refl)) (looks refl refl))) refl))) (goes (looks refl refl) refl)))
-    (looks refl refl))))))))
+    (looks refl refl)))))))))
 
 -- ---- the patterns of a branch
 

@@ -15,7 +15,7 @@ use Rattle.gd_syntax.specs.Reading.{Outcome, Reading, ◌>>=◌, ◌>>◌, give,
 use Rattle.gd_syntax.specs.declared.stops.Sought.TheVariants.{Other}
 use Rattle.gd_syntax.specs.TokenReading.{mark_at, Due}
 use Rattle.gd_syntax.specs.DeclarationGrammar.{expr}
-use Rattle.gd_syntax.specs.StatementGrammar.{unbound_form, full_unbound, unbound, pats_by, pats, return_by, message_by, assignment, simple_by, simple, parted_by, line_by, line, elif_by, else_by, match_by, stmt_by, stmt, body_by, too_deep, block_by, block}
+use Rattle.gd_syntax.specs.StatementGrammar.{unbound_form, full_unbound, unbound, pats_by, pats, return_by, message_by, assignment, simple_by, simple, parted_by, line_by, line, line_block, elif_by, else_by, match_by, stmt_by, stmt, body_by, too_deep, block_by, block}
 use Rattle.gd_syntax.specs.MemberGrammar.{members, class_block}
 
 module _ (tokens : List Token) where
@@ -136,26 +136,26 @@ module _ (tokens : List Token) where
     pub match_further : (sofar : List (List Pattern × List Stmt)) (at : ℕ) (o : Outcome (Turn (List (List Pattern × List Stmt)))) → mark_at tokens at ≢ Some m.Dedent → (do all ← pats tokens; Due tokens Other m.Colon; body ← inner; give (On (sofar ++ (all, body) ∷ []))) at o → Look (mark_at tokens) (match_by tokens inner sofar) at o
     match_further sofar at o x h = looks refl (match_further_by sofar (mark_at tokens at) at o x h)
 
-    body_further_by : (sofar : List Stmt) (k : Option Mark) (at : ℕ) (o : Outcome (Turn (List Stmt))) → k ≢ Some m.Dedent → (do all ← stmt tokens inner; give (On (sofar ++ all))) at o → body_by tokens inner sofar k at o
+    body_further_by : (sofar : List Stmt) (k : Option Mark) (at : ℕ) (o : Outcome (Turn (List Stmt))) → k ≢ Some m.Dedent → (do x ← stmt tokens inner; give (On (sofar ++ x ∷ []))) at o → body_by tokens inner sofar k at o
     body_further_by sofar (Some m.Dedent) at o x h = absurd (x refl)
     body_further_by sofar _ at o x h = h
 
-    pub body_further : (sofar : List Stmt) (at : ℕ) (o : Outcome (Turn (List Stmt))) → mark_at tokens at ≢ Some m.Dedent → (do all ← stmt tokens inner; give (On (sofar ++ all))) at o → Look (mark_at tokens) (body_by tokens inner sofar) at o
+    pub body_further : (sofar : List Stmt) (at : ℕ) (o : Outcome (Turn (List Stmt))) → mark_at tokens at ≢ Some m.Dedent → (do x ← stmt tokens inner; give (On (sofar ++ x ∷ []))) at o → Look (mark_at tokens) (body_by tokens inner sofar) at o
     body_further sofar at o x h = looks refl (body_further_by sofar (mark_at tokens at) at o x h)
 
-    block_line_by : (k : Option Mark) (at : ℕ) (o : Outcome (List Stmt)) → k ≢ Some m.Newline → (line tokens) at o → block_by tokens inner k at o
+    block_line_by : (k : Option Mark) (at : ℕ) (o : Outcome (List Stmt)) → k ≢ Some m.Newline → (line_block tokens) at o → block_by tokens inner k at o
     block_line_by (Some m.Newline) at o x h = absurd (x refl)
     block_line_by _ at o x h = h
 
-    pub block_line : (at : ℕ) (o : Outcome (List Stmt)) → mark_at tokens at ≢ Some m.Newline → (line tokens) at o → Look (mark_at tokens) (block_by tokens inner) at o
+    pub block_line : (at : ℕ) (o : Outcome (List Stmt)) → mark_at tokens at ≢ Some m.Newline → (line_block tokens) at o → Look (mark_at tokens) (block_by tokens inner) at o
     block_line at o x h = looks refl (block_line_by (mark_at tokens at) at o x h)
 
-    stmt_line_by : (place : Place) (k : Option Mark) (at : ℕ) (o : Outcome (List Stmt)) → k ≢ Some m.If → k ≢ Some m.For → k ≢ Some m.While → k ≢ Some m.Match → (line tokens) at o → stmt_by tokens inner place k at o
+    stmt_line_by : (place : Place) (k : Option Mark) (at : ℕ) (o : Outcome Stmt) → k ≢ Some m.If → k ≢ Some m.For → k ≢ Some m.While → k ≢ Some m.Match → (line tokens) at o → stmt_by tokens inner place k at o
     stmt_line_by place (Some m.If) at o x y z w h = absurd (x refl)
     stmt_line_by place (Some m.For) at o x y z w h = absurd (y refl)
     stmt_line_by place (Some m.While) at o x y z w h = absurd (z refl)
     stmt_line_by place (Some m.Match) at o x y z w h = absurd (w refl)
     stmt_line_by place _ at o x y z w h = h
 
-    pub stmt_line : (place : Place) (at : ℕ) (o : Outcome (List Stmt)) → mark_at tokens at ≢ Some m.If → mark_at tokens at ≢ Some m.For → mark_at tokens at ≢ Some m.While → mark_at tokens at ≢ Some m.Match → (line tokens) at o → Look (mark_at tokens) (stmt_by tokens inner place) at o
+    pub stmt_line : (place : Place) (at : ℕ) (o : Outcome Stmt) → mark_at tokens at ≢ Some m.If → mark_at tokens at ≢ Some m.For → mark_at tokens at ≢ Some m.While → mark_at tokens at ≢ Some m.Match → (line tokens) at o → Look (mark_at tokens) (stmt_by tokens inner place) at o
     stmt_line place at o x y z w h = looks refl (stmt_line_by place (mark_at tokens at) at o x y z w h)

@@ -1,5 +1,5 @@
 -- Which expressions are targets, and in which patterns a `var` stands.
-use Rattle.std.proofs.Common.{◌≡◌, ℕ, Bool, true, false, ◌||◌, List, [], ◌∷◌, map, Option, Some, None, rules, refl, ap}
+use Rattle.std.proofs.Common.{◌≡◌, ℕ, Bool, true, false, ◌||◌, List, [], ◌∷◌, map, rules, refl, ap}
 use Rattle.std.specs.List.{list_any}
 use Rattle.gd_syntax.specs.declared.fault.Place.{Place}
 use Rattle.gd_syntax.specs.declared.tree.type_name.Identifier.{Identifier}
@@ -12,7 +12,10 @@ use Rattle.gd_syntax.specs.declared.tree.expr.TreeOp.{TreeOp}
 use Rattle.gd_syntax.specs.declared.tree.expr.TreePrefix.{TreePrefix}
 use Rattle.gd_syntax.specs.declared.tree.pattern.Pattern.{Pattern, the_lemmas as pattern_lemmas}
 use Rattle.gd_syntax.specs.declared.tree.pattern.Pattern.TheVariants as p
-use Rattle.gd_syntax.specs.StatementGrammar.{is_target, binds}
+use Rattle.gd_syntax.specs.declared.tree.pattern.Pattern.TheFolds.{fold-PatternEntry}
+use Rattle.gd_syntax.specs.declared.tree.pattern.Pattern.TheViews.{outs-struct-PatternEntry}
+use Rattle.gd_syntax.specs.declared.tree.pattern.PatternEntry.{PatternEntry}
+use Rattle.gd_syntax.specs.StatementGrammar.{is_target, binds_step, binds_entry, binds, entry_binds}
 
 pub target-Literal : (place : Place) (value : Literal) → is_target (e.Literal place value) ≡ false
 unfolding is_target
@@ -132,10 +135,14 @@ pub binds-Array : (place : Place) (all : List Pattern) (unended : Bool) → bind
 unfolding binds
 binds-Array place all unended = search (rules, pattern_lemmas, any_map)
 
-abbrev pub entry_binds : Literal × Option Pattern → Bool
-entry_binds (key, Some x) = binds x
-entry_binds (key, None) = false
-
-pub binds-Dict : (place : Place) (all : List (Literal × Option Pattern)) (unended : Bool) → binds (p.Dict place all unended) ≡ list_any entry_binds all
+fold-entry : (entry : PatternEntry) → fold-PatternEntry Bool Bool binds_step binds_entry entry ≡ entry_binds entry
 unfolding binds
-binds-Dict place all unended = search (rules, pattern_lemmas, any_map)
+fold-entry entry = search (rules, pattern_lemmas, outs-struct-PatternEntry)
+
+fold-entries : (all : List PatternEntry) → list_any (fold-PatternEntry Bool Bool binds_step binds_entry) all ≡ list_any entry_binds all
+fold-entries [] = refl
+fold-entries (entry ∷ all) = cc (fold-entry entry, fold-entries all)
+
+pub binds-Dict : (place : Place) (all : List PatternEntry) (unended : Bool) → binds (p.Dict place all unended) ≡ list_any entry_binds all
+unfolding binds
+binds-Dict place all unended = search (rules, pattern_lemmas, any_map, fold-entries)

@@ -1,4 +1,4 @@
--- Scripts of the first grammar as plain data.
+-- What the machine runs, as plain data: an `_init` whose lines print sums of whole numbers and texts.
 use Rattle.std.specs.Prelude.{ℕ, ℤ, List}
 use Rattle.gd_syntax.specs.declared.first.SumOp.{SumOp}
 

@@ -1,5 +1,6 @@
 -- The header of a script: the lines from the start that are blank or begin with `#`, `@`, `extends` or `class_name`. Its
--- global name is the identifier behind the first word `class_name` in these lines, outside strings and comments.
+-- global name is the identifier behind the first word `class_name` in these lines, outside strings and comments (Godot
+-- manual, "GDScript reference", "Registering named classes").
 use Rattle.std.specs.Prelude.{ℕ, zero, suc, ◌+◌, ◌-◌, Bool, true, false, not, ◌&&◌, ◌||◌, ◌==◌, nat_lt, if◌then◌else◌, List, [], ◌∷◌, length, take, drop, codes, bytes_eq, option_map, Option, Some, None}
 use Rattle.std.specs.List.{prefix_len}
 use Rattle.unicode_ident.specs.Ident.{is_xid_continue}

@@ -1,4 +1,6 @@
--- The tokens of a text: it is cut into pieces, these make lines, and the depths of the lines open and close blocks.
+-- The tokens of a text: it is cut into pieces, these make lines, and the depths of the lines open and close blocks. The
+-- Godot manual shows blocks by examples alone; the rule is that of Python's "Indentation" with one character for all
+-- depths. As a function it gives each text one list or one fault.
 use Rattle.std.specs.Prelude.{◌≡◌, slice_get, ℕ, zero, suc, ◌+◌, ◌-◌, Bool, true, false, not, ◌&&◌, ◌==◌, nat_lt, if◌then◌else◌, List, [], ◌∷◌, ◌++◌, length, take, drop, map, replicate, Option, Some, None, Result, Ok, Err}
 use Rattle.std.specs.List.{list_all, fold}
 use Rattle.std.specs.Str.{chars}
@@ -232,7 +234,6 @@ abbrev pub first_place : List Token → Ending → Option Place
 first_place [] ending = ending_start ending
 first_place (t ∷ tokens) ending = Some t.place
 
--- whether this is a character that no token begins with, and that stands first on its line
 abbrev pub is_bad_token : FaultKind → Bool
 is_bad_token BadToken = true
 is_bad_token _ = false
@@ -240,6 +241,7 @@ is_bad_token _ = false
 abbrev pub same_place : Place → Place → Bool
 same_place a b = a.line == b.line && a.column == b.column
 
+-- whether a `BadToken` stands first on its line
 abbrev pub begins_badly : List Token → Ending → Bool
 begins_badly [] (breaks place fault) = is_bad_token fault.kind && same_place fault.place place
 begins_badly _ _ = false

@@ -217,7 +217,7 @@ module _ (tokens : List Token) where
       b ← Look (mark_at tokens) extends_by
       Due tokens Other m.Colon
       all ← inner (classes + 1)
-      give (tree.Class place name b all.0, all.1)
+      give (tree.Class (record { place = place; name = name; base = b; members = all.0 }), all.1)
 
     abbrev pub member_by : ℕ → Place → Option Mark → Reading (Member × ℕ)
     member_by classes place (Some m.Pass) = plain classes (pass place)

@@ -11,6 +11,7 @@ use Rattle.gd_syntax.specs.declared.token.Mark.TheVariants as m
 use Rattle.gd_syntax.specs.declared.tree.expr.Literal.{Literal}
 use Rattle.gd_syntax.specs.declared.tree.pattern.Pattern.{Pattern}
 use Rattle.gd_syntax.specs.declared.tree.pattern.Pattern.TheVariants as p
+use Rattle.gd_syntax.specs.declared.tree.pattern.PatternEntry.{PatternEntry}
 use Rattle.gd_syntax.specs.Reading.{Read, Stops, Reading, ◌>>=◌, ◌>>◌, give, Look, Turn, On, Last, Loop}
 use Rattle.gd_syntax.specs.declared.stops.Sought.TheVariants.{Other}
 use Rattle.gd_syntax.specs.TokenReading.{any_name, plain_name, is_plain, literal_of, kind_at, mark_at, place_at, fault_at, skip, refuse, refusal_at, Due, OneOf, identifier, fits}
@@ -116,12 +117,18 @@ module _ (tokens : List Token) where
     key_by (Some value) = do fits tokens room 2; skip tokens; give value
     key_by None = refuse tokens Other
 
-    abbrev pub entry_by : Literal → Option Mark → Reading (Literal × Option Pattern)
-    entry_by key (Some m.Colon) = do skip tokens; x ← inner; give (key, Some x)
-    entry_by key _ = give (key, None)
+    abbrev pub value_by : Option Mark → Reading (Option Pattern)
+    value_by (Some m.Colon) = do skip tokens; x ← inner; give (Some x)
+    value_by _ = give None
 
-    abbrev pub entry_pattern : Reading (Literal × Option Pattern)
-    entry_pattern = do key ← Look (λ at. literal_of (kind_at tokens at)) key_by; Look (mark_at tokens) (entry_by key)
+    abbrev pub entry_at : Place → Reading PatternEntry
+    entry_at place = do
+      key ← Look (λ at. literal_of (kind_at tokens at)) key_by
+      x ← Look (mark_at tokens) value_by
+      give (record { place = place; key = key; value = x })
+
+    abbrev pub entry_pattern : Reading PatternEntry
+    entry_pattern = λ at. entry_at (place_at tokens at) at
 
     abbrev pub dict_pattern : Place → Reading Pattern
     dict_pattern place = do skip tokens; all ← open_list entry_pattern m.RBrace; give (p.Dict place all.0 all.1)

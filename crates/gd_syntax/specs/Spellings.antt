@@ -1,5 +1,5 @@
--- What stands at a place of a text: the longest spelling there, as the Godot manual's "GDScript reference" and UAX 31
--- have it.
+-- What stands at a place of a text: the longest spelling there, as the Godot manual's page "GDScript reference" and UAX 31
+-- have it. Each group names the section of that page.
 use Rattle.std.specs.Prelude.{ℕ, zero, suc, ◌+◌, ◌-◌, ◌^◌, pos, Bool, true, false, not, ◌&&◌, ◌||◌, ◌==◌, nat_lt, if◌then◌else◌, List, [], ◌∷◌, ◌++◌, length, take, drop, codes, bytes_eq, Option, Some, None}
 use Rattle.std.specs.List.{find, filter, list_all, prefix_len}
 use Rattle.std.specs.Char.{is_ascii_digit, digit_value}
@@ -32,7 +32,7 @@ abbrev pub begins : (ℕ → Bool) → List ℕ → Bool
 begins passes [] = false
 begins passes (c ∷ text) = passes c
 
--- Signs: the longest one.
+-- Signs: the longest one ("Operators", "Keywords").
 
 -- the one of these that is spelled so
 unfoldable pub spelled : List Mark → List ℕ → Option Mark
@@ -47,7 +47,8 @@ unfoldable pub sign_at : ℕ → List ℕ → Found
 sign_at zero text = wrong BadToken 0
 sign_at (suc n) text = or_else (spelled SIGNS (take (suc n) text)) (sign_at n text)
 
--- Words: all the characters that may go on an identifier.
+-- Words: all the characters that may go on an identifier ("Identifiers", "Keywords"; UAX 31, requirement R1, default
+-- identifiers, with `_` as one more character that may begin one).
 
 abbrev pub starts_word : ℕ → Bool
 starts_word c = is_xid_start c || c == 95
@@ -67,7 +68,7 @@ word_at text =
     if bytes_eq word (codes "r") && begins is_quote (drop n text) then wrong (Unsupported RawString) 0
     else token (keyword_or_name (spelled KEYWORDS word) word) n
 
--- Numbers: digits, with one `_` between two digits where one likes.
+-- Numbers: digits, with one `_` between two digits where one likes ("Literals").
 
 abbrev pub is_digit : ℕ → ℕ → Bool
 is_digit radix c = nat_lt (digit_value c) radix
@@ -137,7 +138,7 @@ number_at text =
     let more = if radix == 10 then float_len (drop size text) else 0 in
     number_of (number_value radix (take n (drop front text))) size more text
 
--- Strings: from the longest quotes that begin the text up to the first such quotes.
+-- Strings: from the longest quotes that begin the text up to the first such quotes ("Literals", with its escapes).
 
 -- `\n` or `\r\n`: how many characters of a line end begin the text
 abbrev pub line_end_len : List ℕ → ℕ
@@ -228,7 +229,7 @@ string_at quote text =
     let count = if repeats quote 3 text then 3 else 1 in
     string_of count (contents quote count 0 (drop count text))
 
--- Gaps.
+-- Gaps ("Comments", "Line continuation").
 
 abbrev pub is_blank : ℕ → Bool
 is_blank c = c == 32 || c == 9

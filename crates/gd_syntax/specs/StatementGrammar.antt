@@ -1,5 +1,5 @@
 -- The grammar of statements and blocks.
-use Rattle.std.specs.Prelude.{◌≡◌, ℕ, zero, suc, Bool, true, false, if◌then◌else◌, List, [], ◌∷◌, ◌++◌, map, Option, Some, None}
+use Rattle.std.specs.Prelude.{◌≡◌, ℕ, zero, suc, Bool, true, false, if◌then◌else◌, List, [], ◌∷◌, ◌++◌, Option, Some, None}
 use Rattle.std.specs.List.{list_any}
 use Rattle.gd_syntax.specs.declared.fault.Place.{Place}
 use Rattle.gd_syntax.specs.declared.fault.FaultKind.TheVariants.{NestTooDeep}
@@ -13,9 +13,10 @@ use Rattle.gd_syntax.specs.declared.tree.expr.Expr.TheOpen.{Expr-F}
 use Rattle.gd_syntax.specs.declared.tree.expr.Expr.TheFolds.{fold-Expr}
 use Rattle.gd_syntax.specs.declared.tree.expr.Literal.{Literal}
 use Rattle.gd_syntax.specs.declared.tree.pattern.Pattern.{Pattern}
-use Rattle.gd_syntax.specs.declared.tree.pattern.Pattern.TheOpen.{Pattern-F}
+use Rattle.gd_syntax.specs.declared.tree.pattern.Pattern.TheOpen.{Pattern-F, PatternEntry-F}
 use Rattle.gd_syntax.specs.declared.tree.pattern.Pattern.TheFolds.{fold-Pattern}
 use Rattle.gd_syntax.specs.declared.tree.pattern.Pattern.TheVariants as p
+use Rattle.gd_syntax.specs.declared.tree.pattern.PatternEntry.{PatternEntry}
 use Rattle.gd_syntax.specs.declared.tree.statement.AssignOp.{AssignOp}
 use Rattle.gd_syntax.specs.declared.tree.statement.AssignOp.TheVariants as op
 use Rattle.gd_syntax.specs.declared.tree.statement.Simple.{Simple}
@@ -66,19 +67,30 @@ aop_after x mark = if is_target x then aop mark else None
 
 -- ---- the patterns of a branch
 
-abbrev pub binds_entry : Literal × Option Bool → Bool
-binds_entry (key, Some b) = b
-binds_entry (key, None) = false
-
-abbrev pub binds_step : Pattern-F Bool → Bool
+abbrev pub binds_step : Pattern-F Bool Bool → Bool
 binds_step (Pattern-F.Bind place name) = true
 binds_step (Pattern-F.Array place all unended) = list_any (λ b. b) all
-binds_step (Pattern-F.Dict place all unended) = list_any binds_entry all
+binds_step (Pattern-F.Dict place all unended) = list_any (λ b. b) all
 binds_step _ = false
+
+abbrev pub binds_value : Option Bool → Bool
+binds_value (Some b) = b
+binds_value None = false
+
+abbrev pub binds_entry : PatternEntry-F Bool Bool → Bool
+binds_entry e = binds_value e.value
 
 -- whether a `var` stands in the pattern
 unfoldable pub binds : Pattern → Bool
-binds = fold-Pattern Bool binds_step
+binds = fold-Pattern Bool Bool binds_step binds_entry
+
+abbrev pub value_binds : Option Pattern → Bool
+value_binds (Some x) = binds x
+value_binds None = false
+
+-- whether one stands in the entry's pattern
+abbrev pub entry_binds : PatternEntry → Bool
+entry_binds entry = value_binds entry.value
 
 -- whether a pattern without `var` begins with this token
 abbrev pub is_unbound : Kind → Bool
@@ -183,12 +195,19 @@ module _ (tokens : List Token) where
   line_by sofar _ = give (Last sofar)
 
   -- the simple statements of a line, and its end
-  abbrev pub line : Reading (List Stmt)
-  line = do
+  abbrev pub line_form : Place → Reading Stmt
+  line_form place = do
     first ← simple
     all ← Loop (λ sofar. Look (mark_at tokens) (line_by sofar)) (first ∷ [])
     Due tokens Other m.Newline
-    give (map s.Simple all)
+    give (s.Line place all)
+
+  abbrev pub line : Reading Stmt
+  line = λ at. line_form (place_at tokens at) at
+
+  -- a line as a block
+  abbrev pub line_block : Reading (List Stmt)
+  line_block = do x ← line; give (x ∷ [])
 
   -- ---- statements
 
@@ -242,23 +261,19 @@ module _ (tokens : List Token) where
       Due tokens Other m.Dedent
       give (s.Match place x all)
 
-    abbrev pub one : Reading Stmt → Reading (List Stmt)
-    one reading = do x ← reading; give (x ∷ [])
-
-    -- a line may hold several
-    abbrev pub stmt_by : Place → Option Mark → Reading (List Stmt)
-    stmt_by place (Some m.If) = one (if_stmt place)
-    stmt_by place (Some m.For) = one (for_stmt place)
-    stmt_by place (Some m.While) = one (while_stmt place)
-    stmt_by place (Some m.Match) = one (match_stmt place)
+    abbrev pub stmt_by : Place → Option Mark → Reading Stmt
+    stmt_by place (Some m.If) = if_stmt place
+    stmt_by place (Some m.For) = for_stmt place
+    stmt_by place (Some m.While) = while_stmt place
+    stmt_by place (Some m.Match) = match_stmt place
     stmt_by place _ = line
 
-    abbrev pub stmt : Reading (List Stmt)
+    abbrev pub stmt : Reading Stmt
     stmt = λ at. Look (mark_at tokens) (stmt_by (place_at tokens at)) at
 
     abbrev pub body_by : List Stmt → Option Mark → Reading (Turn (List Stmt))
     body_by sofar (Some m.Dedent) = give (Last sofar)
-    body_by sofar _ = do all ← stmt; give (On (sofar ++ all))
+    body_by sofar _ = do x ← stmt; give (On (sofar ++ x ∷ []))
 
     -- a block on the line of its `:`, or indented below it
     abbrev pub block_by : Option Mark → Reading (List Stmt)
@@ -268,7 +283,7 @@ module _ (tokens : List Token) where
       all ← Loop (λ sofar. Look (mark_at tokens) (body_by sofar)) []
       Due tokens Other m.Dedent
       give all
-    block_by _ = line
+    block_by _ = line_block
 
   -- where no further block or class may be open, it is too deep at its first token
   abbrev pub too_deep : {A : Type 0} → Reading A

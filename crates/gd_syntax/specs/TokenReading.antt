@@ -74,7 +74,7 @@ module _ (tokens : List Token) where
   abbrev pub fault_at : FaultKind → ℕ → LoadFault
   fault_at kind at = record { kind = kind; place = place_at at }
 
-  -- the last token, and no other, is the file's end
+  -- the last token is the file's end
   pub record IsEnded : Type 0 where
     pub some : 0 < length tokens
     pub goes_on : (at : ℕ) → at < length tokens → mark_at at ≢ Some m.End → at + 1 < length tokens

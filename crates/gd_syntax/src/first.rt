@@ -1,4 +1,4 @@
-// The tree of a script of the first grammar: an `_init` whose lines print sums of whole numbers and texts.
+// What the machine runs: an `_init` whose lines print sums of whole numbers and texts.
 
 /// `+` or `-`.
 #[derive(Clone, Copy, Debug, PartialEq, Eq)]

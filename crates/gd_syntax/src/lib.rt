@@ -21,7 +21,7 @@ pub use path::{PathError, ResPath};
 pub use stops::{Sought, refusal};
 pub use token::{KEYWORDS, Kind, Mark, SIGNS, Token};
 pub use tree::{
-    Annotation, AssignOp, Base, BaseRoot, Const, Declared, Enum, EnumItem, Expr, Func, Head,
-    Identifier, Literal, Member, Param, PathText, Pattern, Script, Signal, Simple, Stmt, TreeOp,
-    TreePrefix, TypeName, Var,
+    Annotation, AssignOp, Base, BaseRoot, Class, Const, Declared, Enum, EnumItem, Expr, Func, Head,
+    Identifier, Literal, Member, Param, PathText, Pattern, PatternEntry, Script, Signal, Simple,
+    Stmt, TreeOp, TreePrefix, TypeName, Var,
 };

@@ -8,9 +8,9 @@ mod type_name;
 
 pub use expr::{Expr, Literal, TreeOp, TreePrefix};
 pub use member::{
-    Annotation, Base, BaseRoot, Const, Enum, EnumItem, Func, Head, Member, Param, Script, Signal,
-    Var,
+    Annotation, Base, BaseRoot, Class, Const, Enum, EnumItem, Func, Head, Member, Param, Script,
+    Signal, Var,
 };
-pub use pattern::Pattern;
+pub use pattern::{Pattern, PatternEntry};
 pub use statement::{AssignOp, Simple, Stmt};
 pub use type_name::{Declared, Identifier, PathText, TypeName};

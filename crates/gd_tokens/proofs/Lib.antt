@@ -6,3 +6,7 @@ pub mod Ended
 pub mod Files
 pub mod Longest
 pub mod LongestSigns
+pub mod FirstFaults
+pub mod FaultPlaces
+pub mod FaultLines
+pub mod FirstOfFaults

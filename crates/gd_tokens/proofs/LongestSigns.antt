@@ -7,10 +7,13 @@ use Rattle.std.proofs.lemmas.Bool.Decides.{nat_tests}
 use Rattle.std.proofs.lemmas.List.{length-take}
 use Rattle.gd_syntax.specs.declared.token.Mark.{Mark}
 use Rattle.gd_syntax.specs.declared.token.TheConstants.{SIGNS}
-use Rattle.gd_syntax.specs.declared.token.Kind.TheVariants.{Mark as Marked}
+use Rattle.gd_syntax.specs.declared.fault.FaultKind.TheVariants.{BadToken}
+use Rattle.gd_syntax.specs.declared.token.Kind.{Kind}
+use Rattle.gd_syntax.specs.declared.token.Kind.TheVariants.{Mark as Marked, Name, Int, Text}
 use Rattle.gd_syntax.specs.Tokens.{mark_text}
-use Rattle.gd_syntax.specs.Spellings.{token, or_else, sign_at, spelled}
-use Rattle.gd_syntax.specs.Longest.{IsLongest, is_sign_text}
+use Rattle.gd_syntax.specs.Spellings.{Found, space, gap, line_end, token, wrong, unended, or_else, sign_at, spelled}
+use Rattle.gd_syntax.specs.Longest.{is_sign_text}
+use Rattle.gd_tokens.specs.Laws.{IsSign, IsSignToken}
 use Rattle.gd_tokens.proofs.Scans.{spelled_is}
 
 is_short : Mark → Bool
@@ -67,29 +70,75 @@ last_turn : (n : ℕ) (text : List ℕ) (size k : ℕ) → spelled SIGNS (take (
     → size < k → k ≤ suc n → k ≤ length text → is_sign_text (take k text) ≡ false
 last_turn n text size k none longest more few fits = last_case n text size k none longest more few fits (nat_le k n) refl
 
-best_turn : (n : ℕ) (text : List ℕ) (m : Mark) (size : ℕ) (o : Option Mark) → spelled SIGNS (take (suc n) text) ≡ o → or_else o (sign_at n text) ≡ token (Marked m) size → (sign_at n text ≡ token (Marked m) size → Best n text size) → Best (suc n) text size
-best_turn n text m size None is e rest =
-    let b = rest e in
-    record { fits = b.fits; spelled = b.spelled; longest = λ k more few fits. last_turn n text size k is b.longest more few fits }
-best_turn n text m size (Some x) is e rest =
-    let len : length (mark_text x) ≡ size = cc in
-    let all : length (take (suc n) text) ≡ size = ap length (sym (spelled_is SIGNS (take (suc n) text) x is)) ∙ len in
-    record {
-      fits = omega (arith, all, length-take (suc n) text);
-      spelled = ap (λ k. is_sign_text (take k text)) (sym all) ∙ ap is_sign_text (take_same (suc n) text) ∙ ap is_some is;
-      longest = λ k more few fits. absurd (omega (arith, all, more, few, fits, length-take (suc n) text));
-    }
+-- what `sign_at` gives where signs of at most n characters are looked for
+IsBestToken : ℕ → List ℕ → Kind → ℕ → Type 0
+IsBestToken n text (Marked m) size = Best n text size × (spelled SIGNS (take size text) ≡ Some m)
+IsBestToken n text (Name _) size = ⊥
+IsBestToken n text (Int _) size = ⊥
+IsBestToken n text (Text _) size = ⊥
 
-best : (n : ℕ) (text : List ℕ) (m : Mark) (size : ℕ) → sign_at n text ≡ token (Marked m) size → Best n text size
-unfolding sign_at
-best zero text m size e = absurd (cc)
-best (suc n) text m size e = best_turn n text m size (spelled SIGNS (take (suc n) text)) refl e (best n text m size)
+IsBest : ℕ → List ℕ → Found → Type 0
+IsBest n text space = ⊥
+IsBest n text (gap k) = ⊥
+IsBest n text (line_end k) = ⊥
+IsBest n text (token kind size) = IsBestToken n text kind size
+IsBest n text (wrong kind k) = (kind ≡ BadToken) × ((k ≡ 0) × ((k : ℕ) → 0 < k → k ≤ n → k ≤ length text → is_sign_text (take k text) ≡ false))
+IsBest n text unended = ⊥
+
+token_turn : (n : ℕ) (text : List ℕ) (kind : Kind) (size : ℕ) → spelled SIGNS (take (suc n) text) ≡ None → IsBestToken n text kind size → IsBestToken (suc n) text kind size
+unfolding IsBestToken
+token_turn n text (Marked m) size is (b, same) = (record { fits = b.fits; spelled = b.spelled; longest = λ k more few fits. last_turn n text size k is b.longest more few fits }, same)
+token_turn n text (Name name) size is rest = rest
+token_turn n text (Int value) size is rest = rest
+token_turn n text (Text value) size is rest = rest
+
+none_turn : (n : ℕ) (text : List ℕ) (found : Found) → spelled SIGNS (take (suc n) text) ≡ None → IsBest n text found → IsBest (suc n) text found
+unfolding IsBest
+none_turn n text space is rest = rest
+none_turn n text (gap k) is rest = rest
+none_turn n text (line_end k) is rest = rest
+none_turn n text (token kind size) is rest = token_turn n text kind size is rest
+none_turn n text (wrong kind k) is (bad, (here, none)) = (bad, (here, λ k more few fits. last_turn n text 0 k is none more few fits))
+none_turn n text unended is rest = rest
+
+best_turn : (n : ℕ) (text : List ℕ) (o : Option Mark) → spelled SIGNS (take (suc n) text) ≡ o → IsBest n text (sign_at n text) → IsBest (suc n) text (or_else o (sign_at n text))
+unfolding IsBest IsBestToken
+best_turn n text None is rest = none_turn n text (sign_at n text) is rest
+best_turn n text (Some m) is rest =
+    let all : length (take (suc n) text) ≡ length (mark_text m) = ap length (sym (spelled_is SIGNS (take (suc n) text) m is)) in
+    let same : spelled SIGNS (take (length (mark_text m)) text) ≡ Some m = ap (λ k. spelled SIGNS (take k text)) (sym all) ∙ ap (spelled SIGNS) (take_same (suc n) text) ∙ is in (
+      record {
+        fits = omega (arith, all, length-take (suc n) text);
+        spelled = ap is_some same;
+        longest = λ k more few fits. absurd (omega (arith, all, more, few, fits, length-take (suc n) text));
+      },
+      same,
+    )
+
+best : (n : ℕ) (text : List ℕ) → IsBest n text (sign_at n text)
+unfolding sign_at IsBest
+best zero text = (refl, (refl, λ k more few fits. absurd (omega (arith, more, few))))
+best (suc n) text = best_turn n text (spelled SIGNS (take (suc n) text)) refl (best n text)
 
 after_three : (text : List ℕ) (size k : ℕ) → ((k : ℕ) → size < k → k ≤ 3 → k ≤ length text → is_sign_text (take k text) ≡ false) → size < k → k ≤ length text → (few : Bool) → nat_le k 3 ≡ few → is_sign_text (take k text) ≡ false
 after_three text size k longest more fits true is = longest k more (grind (arith, nat_tests)) fits
 after_three text size k longest more fits false is = past_three text k (grind (arith, nat_tests)) fits
 
-pub longest_sign : (text : List ℕ) (m : Mark) (size : ℕ) → sign_at 3 text ≡ token (Marked m) size → IsLongest is_sign_text text size
-longest_sign text m size e =
-    let b = best 3 text m size e in
-    record { fits = b.fits; spelled = b.spelled; longest = λ k more fits. after_three text size k b.longest more fits (nat_le k 3) refl }
+token_whole : (text : List ℕ) (kind : Kind) (size : ℕ) → IsBestToken 3 text kind size → IsSignToken text kind size
+unfolding IsBestToken
+token_whole text (Marked m) size (b, same) = (record { fits = b.fits; spelled = b.spelled; longest = λ k more fits. after_three text size k b.longest more fits (nat_le k 3) refl }, same)
+token_whole text (Name name) size best = best
+token_whole text (Int value) size best = best
+token_whole text (Text value) size best = best
+
+whole : (text : List ℕ) (found : Found) → IsBest 3 text found → IsSign text found
+unfolding IsBest
+whole text space best = best
+whole text (gap k) best = best
+whole text (line_end k) best = best
+whole text (token kind size) best = token_whole text kind size best
+whole text (wrong kind k) (bad, (here, none)) = (bad, (here, λ k more fits. after_three text 0 k none more fits (nat_le k 3) refl))
+whole text unended best = best
+
+pub longest_sign : (text : List ℕ) → IsSign text (sign_at 3 text)
+longest_sign text = whole text (sign_at 3 text) (best 3 text)

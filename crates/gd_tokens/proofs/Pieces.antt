@@ -32,24 +32,24 @@ settled : (blank : Bool) (start : Place) (indent : List ℕ) (tokens more : List
 settled true start indent tokens more ending lines = rw append-nil refl
 settled false start indent tokens more ending lines = refl
 
-onto_gap : (front : Front) (place : Place) (lines : List Line) → onto front (gap_onto place lines) ≡ onto (with_gap front) lines
+pub onto_gap : (front : Front) (place : Place) (lines : List Line) → onto front (gap_onto place lines) ≡ onto (with_gap front) lines
 onto_gap front place [] = refl
 onto_gap front place (line ∷ lines) = settled front.blank front.start front.indent front.tokens line.tokens line.ending lines
 
-onto_token : (front : Front) (t : Token) (opened : List Place) (lines : List Line) → onto front (token_onto t lines) ≡ onto (record front { blank = false; tokens = front.tokens ++ t ∷ []; opened = opened }) lines
+pub onto_token : (front : Front) (t : Token) (opened : List Place) (lines : List Line) → onto front (token_onto t lines) ≡ onto (record front { blank = false; tokens = front.tokens ++ t ∷ []; opened = opened }) lines
 onto_token front t opened [] = refl
 onto_token front t opened (line ∷ lines) =
     settled front.blank front.start front.indent front.tokens (t ∷ line.tokens) line.ending lines
     ∙ ap (λ ts. record { start = front.start; indent = front.indent; tokens = ts; ending = line.ending } ∷ lines) (sym (append_assoc front.tokens (t ∷ []) line.tokens))
 
-blanks : (blank : Bool) (start : Place) (indent : List ℕ) (tokens : List Token) (opened : List Place) (c : ℕ) (place : Place) (lines : List Line)
+pub blanks : (blank : Bool) (start : Place) (indent : List ℕ) (tokens : List Token) (opened : List Place) (c : ℕ) (place : Place) (lines : List Line)
     → onto (record { start = start; indent = indent; blank = blank; tokens = tokens; opened = opened }) (blank_onto place c lines)
     ≡ onto (with_blank (record { start = start; indent = indent; blank = blank; tokens = tokens; opened = opened }) c) lines
 blanks blank start indent tokens opened c place [] = refl
 blanks true start indent tokens opened c place (line ∷ lines) = ap (λ i. record { start = start; indent = i; tokens = tokens ++ line.tokens; ending = line.ending } ∷ lines) (sym (append_assoc indent (c ∷ []) line.indent))
 blanks false start indent tokens opened c place (line ∷ lines) = refl
 
-onto_bare : (front : Front) (place : Place) (ending : Ending) (lines : List Line) → onto front (bare place ending ∷ lines) ≡ record { start = front.start; indent = front.indent; tokens = front.tokens; ending = ending } ∷ lines
+pub onto_bare : (front : Front) (place : Place) (ending : Ending) (lines : List Line) → onto front (bare place ending ∷ lines) ≡ record { start = front.start; indent = front.indent; tokens = front.tokens; ending = ending } ∷ lines
 onto_bare front place ending lines =
     settled front.blank front.start front.indent front.tokens [] ending lines
     ∙ ap (λ ts. record { start = front.start; indent = front.indent; tokens = ts; ending = ending } ∷ lines) (append-nil front.tokens)
@@ -159,15 +159,15 @@ stopped front ending place text none is = (
 abbrev pub first_front : Place → Front
 first_front place = record { start = place; indent = []; blank = true; tokens = []; opened = [] }
 
-first_blank : (place : Place) (c : ℕ) (lines : List Line) → onto (first_front place) (blank_onto place c lines) ≡ blank_onto place c lines
+pub first_blank : (place : Place) (c : ℕ) (lines : List Line) → onto (first_front place) (blank_onto place c lines) ≡ blank_onto place c lines
 first_blank place c [] = refl
 first_blank place c (line ∷ lines) = refl
 
-first_gap : (place : Place) (lines : List Line) → onto (first_front place) (gap_onto place lines) ≡ gap_onto place lines
+pub first_gap : (place : Place) (lines : List Line) → onto (first_front place) (gap_onto place lines) ≡ gap_onto place lines
 first_gap place [] = refl
 first_gap place (line ∷ lines) = refl
 
-first_token : (place : Place) (kind : Kind) (lines : List Line) → onto (first_front place) (token_onto (record { kind = kind; place = place }) lines) ≡ token_onto (record { kind = kind; place = place }) lines
+pub first_token : (place : Place) (kind : Kind) (lines : List Line) → onto (first_front place) (token_onto (record { kind = kind; place = place }) lines) ≡ token_onto (record { kind = kind; place = place }) lines
 first_token place kind [] = refl
 first_token place kind (line ∷ lines) = refl
 

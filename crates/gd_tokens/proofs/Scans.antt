@@ -103,3 +103,7 @@ pub kept_front : (signs : List Mark) (text : List ℕ) (c n : ℕ) → 0 < n →
 kept_front signs text c zero some one first is = absurd (omega arith)
 kept_front signs [] c (suc n) some one first is = absurd (omega arith)
 kept_front signs (d ∷ text) c (suc n) some one first is = ap (λ s. spelled s (d ∷ take n text)) (is ∙ ap (λ e. filter (begins_with e) SIGNS) first) ∙ kept SIGNS d (take n text)
+
+pub kept_word : (some marks : List Mark) (word : List ℕ) (c : ℕ) → 1 ≤ length word → c ≡ get_or word 0 c → some ≡ filter (begins_with c) marks → spelled some word ≡ spelled marks word
+kept_word some marks [] c one first is = absurd (omega arith)
+kept_word some marks (d ∷ word) c one first is = ap (λ s. spelled s (d ∷ word)) (is ∙ ap (λ e. filter (begins_with e) marks) first) ∙ kept marks d word

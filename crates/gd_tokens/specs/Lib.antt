@@ -3,3 +3,5 @@ pub mod StringParts
 pub mod LineParts
 pub mod LayoutParts
 pub mod ListParts
+pub mod Laws
+pub mod FaultOrder

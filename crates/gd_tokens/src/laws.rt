@@ -1,12 +1,13 @@
 // Laws of the definition of tokens.
-ghost use Rattle.std.specs.Prelude.{◌≡◌, ℕ, false, IsTrue};
+ghost use Rattle.std.specs.Prelude.{◌≡◌, false, IsTrue};
 ghost use Rattle.std.specs.List.{list_all, prefix_len};
 ghost use Rattle.unicode_ident.specs.Ident.{is_xid_continue};
-ghost use Rattle.gd_syntax.specs.declared.token.Mark.{Mark};
-ghost use Rattle.gd_syntax.specs.declared.token.Kind.TheVariants.{Mark as Marked};
-ghost use Rattle.gd_syntax.specs.Spellings.{begins, digits_len, is_digit, sign_at, token};
-ghost use Rattle.gd_syntax.specs.Layout.{Answer, tokens_in_bytes};
-ghost use Rattle.gd_syntax.specs.Longest.{IsLongest, are_digits, is_sign_text};
+ghost use Rattle.gd_syntax.specs.declared.fault.LoadFault.{LoadFault};
+ghost use Rattle.gd_syntax.specs.Spellings.{begins, digits_len, is_digit, sign_at};
+ghost use Rattle.gd_syntax.specs.Longest.{IsLongest, are_digits};
+ghost use Rattle.gd_syntax.specs.Layout.{tokens_in_bytes};
+ghost use Rattle.gd_tokens.specs.FaultOrder.{AnswersFirst, IsFirstOf, faults_in};
+ghost use Rattle.gd_tokens.specs.Laws.{IsFirstFault, IsSign};
 
 /// The law that a word is the longest front whose characters may go on an identifier.
 pub fn longest_word(text: &[char])
@@ -19,13 +20,19 @@ pub fn longest_digits(text: &[char], radix: u32)
     ensures { IsLongest (are_digits radix false) text.now (digits_len radix false text.now) }
 {}
 
-/// The law that a sign is the longest that begins the text.
+/// The law that a sign is the longest that begins the text, and that there is none only where no sign begins it.
 pub fn longest_sign(text: &[char])
-    ensures { (m : Mark) (size : ℕ) → sign_at 3 text.now ≡ token (Marked m) size → IsLongest is_sign_text text.now size }
+    ensures { IsSign text.now (sign_at 3 text.now) }
 {}
 
-/// The law that each file has exactly one list of tokens, or exactly one first fault.
-pub fn one_answer(text: &[u8])
-    ensures some { (answer : Answer) × (tokens_in_bytes text.now ≡ answer) }
-    ensures one { (a b : Answer) → tokens_in_bytes text.now ≡ a → tokens_in_bytes text.now ≡ b → a ≡ b }
+/// The law that a fault, unless it is `Unclosed`, is that of the shortest front of the file's pieces that has one, whatever
+/// stands behind that front.
+pub fn first_fault(text: &[u8])
+    ensures { IsFirstFault text.now }
+{}
+
+/// The law that a file has tokens where it has no fault, and that its fault is the first of all that it has.
+pub fn the_first_fault_counts(text: &[u8])
+    ensures first { AnswersFirst (faults_in text.now) (tokens_in_bytes text.now) }
+    ensures one { (a b : LoadFault) → IsFirstOf (faults_in text.now) a → IsFirstOf (faults_in text.now) b → a ≡ b }
 {}

@@ -2,6 +2,7 @@
 #![tactic(auto)]
 
 mod found;
+mod keywords;
 mod laws;
 mod layout;
 mod lines;
@@ -16,7 +17,7 @@ mod tests;
 mod texts;
 mod words;
 
-pub use laws::{longest_digits, longest_sign, longest_word, one_answer};
+pub use laws::{first_fault, longest_digits, longest_sign, longest_word, the_first_fault_counts};
 pub use reader::past;
 pub use scan::is_blank;
 pub use texts::{tokens, valid_front};

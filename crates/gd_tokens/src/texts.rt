@@ -99,7 +99,7 @@ fn with_bad_bytes(
     }
 }
 
-/// The tokens of a file, or its first fault. The last token, and no other, is the file's end.
+/// The tokens of a file, or its first fault. The last token is the file's end.
 ///
 /// A file is UTF-8. Its words, numbers and strings are those of the Godot manual's "GDScript reference", where an
 /// identifier follows UAX 31 with `_` as a further start.

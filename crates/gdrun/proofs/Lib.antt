@@ -2,7 +2,10 @@ mod Chains
 mod Endings
 mod Files
 mod Found
+mod TakenForms
+mod TakenSteps
 mod Texts
+mod Values
 mod Whole
 mod WordLists
 mod Written

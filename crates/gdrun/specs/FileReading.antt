@@ -1,7 +1,6 @@
 -- What the text of a script is read as: the first fault of its tokens, else that of its tree, else `Unbuilt` where the
 -- file is not taken, else the machine's script.
-use Rattle.std.specs.Prelude.{◌≡◌, ℕ, List, Option, Some, None, Result, Ok, Err}
-use Rattle.gd_syntax.specs.declared.fault.FaultKind.TheVariants.{Unbuilt}
+use Rattle.std.specs.Prelude.{◌≡◌, ℕ, List, Result, Ok, Err}
 use Rattle.gd_syntax.specs.declared.fault.LoadFault.{LoadFault}
 use Rattle.gd_syntax.specs.declared.fault.Place.{Place}
 use Rattle.gd_syntax.specs.declared.fault.SolveError.{SolveError}
@@ -16,26 +15,31 @@ use Rattle.gd_syntax.specs.Layout.{Answer, tokens_in_bytes}
 use Rattle.gd_syntax.specs.Reading.{Outcome, Read, Stops}
 use Rattle.gd_syntax.specs.ScriptGrammar as grammar
 use Rattle.gdrun.specs.Single.{script_of_tree}
-use Rattle.gdrun.specs.Taken.{unbuilt_place}
+use Rattle.gdrun.specs.Taken as what_is_taken
 
 pub data FileReading : Type 0 where
   taken : Script → FileReading
   faulty : LoadFault → FileReading
 
--- a file with this tree, and the first token that no file which is taken has there
-abbrev pub reading_of_tree : Tree → Option Place → FileReading
-reading_of_tree tree None = taken (script_of_tree tree)
-reading_of_tree tree (Some place) = faulty (record { kind = Unbuilt; place = place })
+-- a file with this tree, by the reading of what is taken
+abbrev pub reading_of_tree : Tree → Outcome (Unit {0}) → FileReading
+reading_of_tree tree (Read _ end) = taken (script_of_tree tree)
+reading_of_tree tree (Stops fault) = faulty fault
 
-abbrev pub reading_of_outcome : List Token → Outcome Tree → FileReading
-reading_of_outcome tokens (Read tree end) = reading_of_tree tree (unbuilt_place tokens)
-reading_of_outcome tokens (Stops fault) = faulty fault
+pub record IsReadingOfTree (tokens : List Token) (tree : Tree) (reading : FileReading) : Type 0 where
+  pub outcome : Outcome (Unit {0})
+  pub read : what_is_taken.file tokens 0 outcome
+  pub is : reading ≡ reading_of_tree tree outcome
+
+abbrev pub IsReadingOfOutcome : List Token → Outcome Tree → FileReading → Type 0
+IsReadingOfOutcome tokens (Read tree end) reading = IsReadingOfTree tokens tree reading
+IsReadingOfOutcome tokens (Stops fault) reading = reading ≡ faulty fault
 
 -- the tokens of a file whose header lines end at this place are read so
 pub record IsReadingOfTokens (header_end : Place) (tokens : List Token) (reading : FileReading) : Type 0 where
   pub outcome : Outcome Tree
   pub read : grammar.script tokens header_end 0 outcome
-  pub is : reading ≡ reading_of_outcome tokens outcome
+  pub is : IsReadingOfOutcome tokens outcome reading
 
 abbrev pub IsReadingOfAnswer : Place → Answer → FileReading → Type 0
 IsReadingOfAnswer header_end (Ok tokens) reading = IsReadingOfTokens header_end tokens reading

@@ -5,5 +5,7 @@ pub mod Outcome
 pub mod Run
 pub mod Told
 pub mod Taken
+pub mod Turns
 pub mod Single
+pub mod Values
 pub mod FileReading

@@ -103,13 +103,13 @@ simple_lines (simply.Expr place x) = expression_lines place x
 simple_lines _ = []
 
 abbrev pub statement_lines_by : Stmt-F Stmt → List Print
-statement_lines_by (Stmt-F.Simple x) = simple_lines x
+statement_lines_by (Stmt-F.Line place all) = flat_map simple_lines all
 statement_lines_by _ = []
 
 abbrev pub statement_lines : Stmt → List Print
 statement_lines x = statement_lines_by (out-Stmt x)
 
-abbrev pub member_lines_by : Member-F Member → List Print
+abbrev pub member_lines_by : {A B : Type 0} → Member-F A B → List Print
 member_lines_by (Member-F.Func f) = flat_map statement_lines f.body
 member_lines_by _ = []
 

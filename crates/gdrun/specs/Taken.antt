@@ -6,16 +6,16 @@
 --     call     = "print" "(" argument { "," argument } [ "," ] ")"
 --     argument = string | number { ( "+" | "-" | "*" ) number }
 --
--- Such files are read token by token: each token tells what is due behind it.
-use Rattle.std.specs.Prelude.{ℕ, ◌+◌, nat_le, nat_lt, Bool, true, false, if◌then◌else◌, List, [], ◌∷◌, codes, bytes_eq, Option, Some, None}
-use Rattle.gd_syntax.specs.declared.fault.Place.{Place}
+-- A reading with these forms alone stops as `Unbuilt`, at the first token that no file which is taken has there.
+use Rattle.std.specs.Prelude.{◌≡◌, ◌≢◌, ℕ, ◌+◌, nat_lt, Bool, true, false, if◌then◌else◌, List, codes, bytes_eq, Option, Some, None}
+use Rattle.gd_syntax.specs.declared.fault.FaultKind.TheVariants.{Unbuilt}
 use Rattle.gd_syntax.specs.declared.token.Token.{Token}
 use Rattle.gd_syntax.specs.declared.token.Kind.{Kind}
-use Rattle.gd_syntax.specs.declared.token.Kind.TheVariants.{Mark as Marked, Name, Text, Int}
+use Rattle.gd_syntax.specs.declared.token.Kind.TheVariants.{Name, Text, Int}
 use Rattle.gd_syntax.specs.declared.token.Mark.{Mark}
 use Rattle.gd_syntax.specs.declared.token.Mark.TheVariants as m
-use Rattle.gdrun.specs.declared.taken.Due.{Due}
-use Rattle.gdrun.specs.declared.taken.Due.TheVariants as d
+use Rattle.gd_syntax.specs.Reading.{Outcome, Read, Stops, Reading, ◌>>=◌, ◌>>◌, give, either, Look, Turn, On, Last, Loop}
+use Rattle.gd_syntax.specs.TokenReading.{kind_at, mark_at, fault_at, skip}
 
 abbrev pub max_arguments : ℕ
 max_arguments = 16
@@ -23,86 +23,114 @@ max_arguments = 16
 abbrev pub max_operators : ℕ
 max_operators = 64
 
-abbrev pub after_line : Bool → Due
-after_line true = d.Line
-after_line false = d.End
+-- this very word
+abbrev pub is_word : List ℕ → Kind → Bool
+is_word word (Name name) = bytes_eq name word
+is_word word _ = false
 
-abbrev pub call : Bool → List ℕ → Option Due
-call in_block name = if bytes_eq name (codes "print") then Some (d.CallOpen in_block) else None
+abbrev pub is_number : Kind → Bool
+is_number (Int n) = true
+is_number _ = false
 
-abbrev pub init : List ℕ → Option Due
-init name = if bytes_eq name (codes "_init") then Some d.Open else None
+-- an operator of a chain
+abbrev pub is_operator : Option Mark → Bool
+is_operator (Some m.Plus) = true
+is_operator (Some m.Minus) = true
+is_operator (Some m.Star) = true
+is_operator _ = false
 
-abbrev pub text_argument : Bool → ℕ → Option Due
-text_argument in_block n = if nat_lt n max_arguments then Some (d.AfterText in_block (n + 1)) else None
+module _ (tokens : List Token) where
+  -- no file that is taken has this token here
+  abbrev pub unbuilt : {A : Type 0} → Reading A
+  unbuilt = λ at o. o ≡ Stops (fault_at tokens Unbuilt at)
 
-abbrev pub number_argument : Bool → ℕ → Option Due
-number_argument in_block n = if nat_lt n max_arguments then Some (d.AfterNumber in_block (n + 1) 0) else None
+  -- this very token
+  pub data Due (wanted : Mark) : ℕ → Outcome (Unit {0}) → Type 0 where
+    found : {at : ℕ} → mark_at tokens at ≡ Some wanted → Due wanted at (Read tt (at + 1))
+    missing : {at : ℕ} → mark_at tokens at ≢ Some wanted → Due wanted at (Stops (fault_at tokens Unbuilt at))
 
--- a comma may end the arguments, of which there is one at least
-abbrev pub end_arguments : Bool → ℕ → Option Due
-end_arguments in_block n = if nat_le 1 n then Some (d.AfterCall in_block) else None
+  -- the token, where it is one that may stand here
+  abbrev pub one : Bool → Reading (Unit {0})
+  one may = either may (skip tokens) unbuilt
 
-abbrev pub operator : Bool → ℕ → ℕ → Option Due
-operator in_block n operators = if nat_lt operators max_operators then Some (d.Operand in_block n (operators + 1)) else None
+  abbrev pub word : List ℕ → Reading (Unit {0})
+  word text = Look (λ at. is_word text (kind_at tokens at)) one
 
-abbrev pub mark_step : Due → Mark → Option Due
-mark_step d.Func m.Func = Some d.Init
-mark_step d.Open m.LParen = Some d.Close
-mark_step d.Close m.RParen = Some d.Colon
-mark_step d.Colon m.Colon = Some d.Body
-mark_step d.Body m.Newline = Some d.Indent
-mark_step d.Indent m.Indent = Some d.Line
-mark_step d.Line m.Dedent = Some d.End
-mark_step (d.CallOpen in_block) m.LParen = Some (d.Argument in_block 0)
-mark_step (d.Argument in_block n) m.RParen = end_arguments in_block n
-mark_step (d.AfterText in_block n) m.Comma = Some (d.Argument in_block n)
-mark_step (d.AfterText in_block n) m.RParen = Some (d.AfterCall in_block)
-mark_step (d.AfterNumber in_block n operators) m.Comma = Some (d.Argument in_block n)
-mark_step (d.AfterNumber in_block n operators) m.RParen = Some (d.AfterCall in_block)
-mark_step (d.AfterNumber in_block n operators) m.Plus = operator in_block n operators
-mark_step (d.AfterNumber in_block n operators) m.Minus = operator in_block n operators
-mark_step (d.AfterNumber in_block n operators) m.Star = operator in_block n operators
-mark_step (d.AfterCall in_block) m.Semicolon = Some (d.AfterSemicolon in_block)
-mark_step (d.AfterCall in_block) m.Newline = Some (after_line in_block)
-mark_step (d.AfterSemicolon in_block) m.Newline = Some (after_line in_block)
-mark_step d.End m.End = Some d.Nothing
-mark_step _ _ = None
+  abbrev pub number : Reading (Unit {0})
+  number = Look (λ at. is_number (kind_at tokens at)) one
 
-abbrev pub name_step : Due → List ℕ → Option Due
-name_step d.Init name = init name
-name_step d.Body name = call false name
-name_step d.Line name = call true name
-name_step (d.AfterSemicolon in_block) name = call in_block name
-name_step _ name = None
+  -- ---- arguments
 
-abbrev pub text_step : Due → Option Due
-text_step (d.Argument in_block n) = text_argument in_block n
-text_step _ = None
+  -- so many operators stand before
+  abbrev pub operator_by : ℕ → Bool → Reading (Turn ℕ)
+  operator_by n true = either (nat_lt n max_operators) (do skip tokens; number; give (On (n + 1))) unbuilt
+  operator_by n false = give (Last n)
 
-abbrev pub number_step : Due → Option Due
-number_step (d.Argument in_block n) = number_argument in_block n
-number_step (d.Operand in_block n operators) = Some (d.AfterNumber in_block n operators)
-number_step _ = None
+  abbrev pub operator : ℕ → Reading (Turn ℕ)
+  operator n = Look (λ at. is_operator (mark_at tokens at)) (operator_by n)
 
--- what is due behind a token, if it may stand here
-abbrev pub step : Due → Kind → Option Due
-step due (Marked mark) = mark_step due mark
-step due (Name name) = name_step due name
-step due (Text text) = text_step due
-step due (Int value) = number_step due
+  abbrev pub operators : Reading (Unit {0})
+  operators = do Loop operator 0; give tt
 
--- where the token may stand, the rest decides
-abbrev pub unbuilt_by : Place → Option Due → (Due → Option Place) → Option Place
-unbuilt_by place None behind = Some place
-unbuilt_by place (Some due) behind = behind due
+  abbrev pub argument_by : Kind → Reading (Unit {0})
+  argument_by (Text text) = skip tokens
+  argument_by (Int n) = do skip tokens; operators
+  argument_by _ = unbuilt
 
--- The place of the first token that no file which is taken has there, where this is due; none where all the tokens may
--- stand.
-unfoldable pub unbuilt_from : Due → List Token → Option Place
-unbuilt_from due [] = None
-unbuilt_from due (token ∷ tokens) = unbuilt_by token.place (step due token.kind) (λ next. unbuilt_from next tokens)
+  abbrev pub argument : Reading (Unit {0})
+  argument = Look (kind_at tokens) argument_by
 
--- that of a file
-abbrev pub unbuilt_place : List Token → Option Place
-unbuilt_place = unbuilt_from d.Func
+  -- Behind a comma: so many arguments stand before, and a comma may end them.
+  abbrev pub parted_argument_by : ℕ → Option Mark → Reading (Turn ℕ)
+  parted_argument_by n (Some m.RParen) = give (Last n)
+  parted_argument_by n _ = either (nat_lt n max_arguments) (do argument; give (On (n + 1))) unbuilt
+
+  abbrev pub further_argument_by : ℕ → Option Mark → Reading (Turn ℕ)
+  further_argument_by n (Some m.Comma) = do skip tokens; Look (mark_at tokens) (parted_argument_by n)
+  further_argument_by n _ = give (Last n)
+
+  abbrev pub further_argument : ℕ → Reading (Turn ℕ)
+  further_argument n = Look (mark_at tokens) (further_argument_by n)
+
+  abbrev pub further_arguments : Reading (Unit {0})
+  further_arguments = do Loop further_argument 1; give tt
+
+  -- ---- lines
+
+  abbrev pub call : Reading (Unit {0})
+  call = do word (codes "print"); Due m.LParen; argument; further_arguments; Due m.RParen
+
+  -- behind `;` the line may end
+  abbrev pub parted_call_by : Option Mark → Reading (Turn (Unit {0}))
+  parted_call_by (Some m.Newline) = give (Last tt)
+  parted_call_by _ = do call; give (On tt)
+
+  abbrev pub further_call_by : Option Mark → Reading (Turn (Unit {0}))
+  further_call_by (Some m.Semicolon) = do skip tokens; Look (mark_at tokens) parted_call_by
+  further_call_by _ = give (Last tt)
+
+  abbrev pub further_call : Unit {0} → Reading (Turn (Unit {0}))
+  further_call _ = Look (mark_at tokens) further_call_by
+
+  abbrev pub line : Reading (Unit {0})
+  line = do call; Loop further_call tt; Due m.Newline
+
+  -- ---- the file
+
+  abbrev pub further_line_by : Option Mark → Reading (Turn (Unit {0}))
+  further_line_by (Some m.Dedent) = give (Last tt)
+  further_line_by _ = do line; give (On tt)
+
+  abbrev pub further_line : Unit {0} → Reading (Turn (Unit {0}))
+  further_line _ = Look (mark_at tokens) further_line_by
+
+  -- lines on the line of the `:`, or indented below it
+  abbrev pub body_by : Option Mark → Reading (Unit {0})
+  body_by (Some m.Newline) = do skip tokens; Due m.Indent; Loop further_line tt; Due m.Dedent
+  body_by _ = line
+
+  abbrev pub head : Reading (Unit {0})
+  head = do Due m.Func; word (codes "_init"); Due m.LParen; Due m.RParen; Due m.Colon
+
+  abbrev pub file : Reading (Unit {0})
+  file = do head; Look (mark_at tokens) body_by; Due m.End

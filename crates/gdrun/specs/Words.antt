@@ -7,7 +7,20 @@ use Rattle.std.specs.declared.option.Option.{Option}
 use Rattle.std.specs.declared.option.Option.TheVariants.{None, Some}
 use Rattle.std.specs.Option.{option_and}
 use Rattle.res_paths.specs.Paths.{is_res_path, is_script_name}
-use Rattle.gdrun.specs.declared.words.TheConstants.{DEFAULT_STEPS, MAX_STEPS, MAX_WORKERS, MAX_DIGITS}
+
+-- the most digits of a number
+abbrev pub max_digits : ℕ
+max_digits = 13
+
+abbrev pub max_workers : ℕ
+max_workers = 64
+
+abbrev pub max_steps : ℕ
+max_steps = 1000000000000
+
+-- the steps of a run whose words name none
+abbrev pub default_steps : ℕ
+default_steps = 10000000
 
 -- what is asked for
 pub data Command : Type 0 where
@@ -25,7 +38,7 @@ digits_value digits = fold (λ value digit. value * 10 + (digit - 48)) 0 digits
 
 -- the value of 1 to 13 decimal digits
 abbrev pub number_of : List ℕ → Option ℕ
-number_of text = if nat_le 1 (length text) && nat_le (length text) MAX_DIGITS && list_all is_ascii_digit text then Some (digits_value text) else None
+number_of text = if nat_le 1 (length text) && nat_le (length text) max_digits && list_all is_ascii_digit text then Some (digits_value text) else None
 
 -- a number from 1 to a limit
 abbrev pub within : ℕ → Option ℕ → Option ℕ
@@ -34,9 +47,9 @@ within limit (Some n) = if nat_le 1 n && nat_le n limit then Some n else None
 
 -- the steps that the words after PATH allow: WORKERS and STEPS may be left out
 abbrev pub steps_of_words : List (List ℕ) → Option ℕ
-steps_of_words [] = Some DEFAULT_STEPS
-steps_of_words (workers ∷ []) = option_and (within MAX_WORKERS (number_of workers)) (Some DEFAULT_STEPS)
-steps_of_words (workers ∷ steps ∷ []) = option_and (within MAX_WORKERS (number_of workers)) (within MAX_STEPS (number_of steps))
+steps_of_words [] = Some default_steps
+steps_of_words (workers ∷ []) = option_and (within max_workers (number_of workers)) (Some default_steps)
+steps_of_words (workers ∷ steps ∷ []) = option_and (within max_workers (number_of workers)) (within max_steps (number_of steps))
 steps_of_words (workers ∷ steps ∷ more ∷ words) = None
 
 -- the path of a script

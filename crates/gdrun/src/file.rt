@@ -1,13 +1,13 @@
 // From the bytes of a script to what the machine runs.
-ghost use Rattle.std.specs.Prelude.{◌≡◌, ◌≤◌, length, None, Some};
+ghost use Rattle.std.specs.Prelude.{◌≡◌, ◌≤◌, length};
 ghost use Rattle.gd_syntax.specs.TokenReading.{IsEnded};
 ghost use Rattle.gdrun.specs.FileReading.{IsRead, IsTokensRead};
 
 use crate::single::script_of_tree;
-use crate::taken::unbuilt_place;
+use crate::taken;
 use gd_header::header_end;
 use gd_parser::parse;
-use gd_syntax::{FaultKind, FirstScript, LoadFault, Place, SolveError, Token};
+use gd_syntax::{FirstScript, Place, SolveError, Token};
 use gd_tokens::tokens;
 use std::alloc::Global;
 
@@ -20,13 +20,8 @@ fn read_tokens(
     ensures { IsTokensRead header_end tokens.now result }
 {
     let tree = parse(alloc, tokens, header_end)?;
-    match unbuilt_place(tokens) {
-        None => Ok(script_of_tree(alloc, &tree)?),
-        Some(place) => Err(SolveError::Fault(LoadFault {
-            kind: FaultKind::Unbuilt,
-            place,
-        })),
-    }
+    taken::file(tokens)?;
+    Ok(script_of_tree(alloc, &tree)?)
 }
 
 /// Reads the text of a script: its tokens, its tree, and what the machine runs of it.

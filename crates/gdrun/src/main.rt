@@ -3,6 +3,7 @@
 
 mod command;
 mod file;
+mod laws;
 #[cfg(test)]
 mod rows;
 mod run;

@@ -164,7 +164,15 @@ fn faults_of_scripts(rt: HostRuntime) -> Result<(), Fail> {
         ),
         ("func _init():\n\tprint(\"abc", "2:8 Unclosed"),
         ("func _init():\n\tprint(1.5)\n", "2:8 Unsupported(float)"),
+        ("var x = r\"a\"\n", "1:9 Unsupported(raw string)"),
+        (
+            "const X = preload(\"uid://a\")\n",
+            "1:19 Unsupported(uid path)",
+        ),
         ("var x = (1,\n", "1:9 Unclosed"),
+        // A fault of the tokens hides those of the tree, also where it stands behind them.
+        ("var var\nvar x = 1.5\n", "2:9 Unsupported(float)"),
+        ("var var\nvar x = (1,\n", "2:9 Unclosed"),
         (
             "func _init():\n\tprint(9223372036854775808)\n",
             "2:8 NumberTooLarge",
@@ -416,6 +424,15 @@ fn writes_that_fail(rt: HostRuntime) -> Result<(), Fail> {
         };
         expect(&rt, row, text, Status::SinkFault)?;
     }
+    let two_lines = [(
+        "res://m.gd",
+        "func _init():\n\tprint(\"a\")\n\tprint(\"b\")\n",
+    )];
+    let row = Row {
+        failing_writes: &[1],
+        ..without_faults(words, &two_lines)
+    };
+    expect(&rt, row, "a\n", Status::SinkFault)?;
     let others = [("res://a.gd", SCRIPT)];
     let row = Row {
         failing_writes: &[1],
@@ -444,18 +461,32 @@ fn run_one(alloc: Global, text: &[u8]) -> Result<(Status, MemorySink), AllocErro
     Ok((status, out))
 }
 
-/// A script with every kind of head, member, statement and pattern.
+/// A script with every form of heads, members, statements, patterns and expressions, but the one in `NAMED_BASE`.
 const ALL_FORMS: &str = "@tool
-class_name A extends \"b.gd\".C
+class_name A
+extends \"b.gd\".C
 @export var a: int = 1
 @onready var b := $B/C
 const D = [1, {\"k\": 2}, {l = 3}]
+const I: A.B := true
 enum E {F, G = 2}
-signal s(x, y: int)
+enum {J,}
+signal s(x, y: int,)
+signal t
+pass
 class H extends Node:
 \tfunc j(k, l = 1) -> void: pass
-@warning_ignore(\"x\") static func m(n, o := 2):
+@warning_ignore(\"x\",) static func m(n, o := 2, z: int = 3,) -> A.B:
 \tvar p = not n in [1] and -n is int
+\tconst u = (1 + 2 - 3) * 4 / 5 % 6 << 7 >> 8
+\tvar v = ~1 & 2 | 3 ^ 4
+\tvar w = n is not int or n not in [] || !(a < b) && c >= d
+\tvar x := $\"A/B\" == null != false
+\tvar aa = [1,][+0] and {2: 3,} or {b = 4,} || (n(5,))
+\tsuper(n, o,)
+\tw[0] = 1; w *= 2; w /= 2; w %= 2; w &= 2; w |= 2; w ^= 2; w >>= 2;
+\tif p > 1: return
+\tif p <= 1: n -= 1
 \tif p: return 1 if o else 2
 \telif n == 0x1F:
 \t\tpass
@@ -468,16 +499,23 @@ class H extends Node:
 \tmatch n:
 \t\t1, -2: pass
 \t\t[var r, ..]: pass
+\t\t[1, 2]: pass
+\t\t[..]: pass
 \t\t{\"k\": var t, ..}: pass
+\t\t{1}: pass
+\t\t{..}: pass
 \t\tE.F: pass
+\t\tvar y: pass
 \t\t_: pass
 \tself.a[0].b = super.m(preload(\"c\"), load(\"d\")) as int
 ";
 
-/// Each front of a script is read or refused.
-#[test]
-fn fronts_of_a_script(rt: HostRuntime) -> Result<(), Fail> {
-    let all = ALL_FORMS.as_bytes();
+/// A head with a name and a base.
+const NAMED_BASE: &str = "class_name A extends \"b.gd\".C
+";
+
+/// Each front of the text is read or refused.
+fn check_fronts(rt: &(impl Abort + AllocGlobal), all: &[u8]) -> Result<(), Fail> {
     for end in 0..all.len() {
         let (status, out) = run_one(rt.alloc(), &all[..end])?;
         assert_eq!(rt; status, Status::Refused);
@@ -486,7 +524,15 @@ fn fronts_of_a_script(rt: HostRuntime) -> Result<(), Fail> {
                 .starts_with(b"refused res://m.gd: res://m.gd\nres://m.gd:")
         );
     }
+    Ok(())
+}
+
+#[test]
+fn fronts_of_a_script(rt: HostRuntime) -> Result<(), Fail> {
+    check_fronts(&rt, ALL_FORMS.as_bytes())?;
     expect_refused(&rt, ALL_FORMS, "1:1 Unbuilt")?;
+    check_fronts(&rt, NAMED_BASE.as_bytes())?;
+    expect_refused(&rt, NAMED_BASE, "1:1 Unbuilt")?;
     Ok(())
 }
 

@@ -194,6 +194,15 @@ fn push_simple(
     }
 }
 
+fn push_line(alloc: Global, prints: &mut Vec<FirstPrint>, all: &[Simple]) -> Result<(), AllocError>
+    ensures { OnOk result (map print_of prints.new.items ≡ map print_of prints.old.items ++ flat_map spec.simple_lines all.now) }
+{
+    for simple in all {
+        push_simple(alloc, prints, simple)?;
+    }
+    Ok(())
+}
+
 fn push_statement(
     alloc: Global,
     prints: &mut Vec<FirstPrint>,
@@ -202,7 +211,7 @@ fn push_statement(
     ensures { OnOk result (map print_of prints.new.items ≡ map print_of prints.old.items ++ spec.statement_lines statement.now) }
 {
     match statement {
-        Stmt::Simple(simple) => push_simple(alloc, prints, simple),
+        Stmt::Line(_, all) => push_line(alloc, prints, all.as_slice()),
         _ => Ok(()),
     }
 }

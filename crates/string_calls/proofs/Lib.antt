@@ -1,3 +1,4 @@
+pub mod FirstPlaces
 pub mod Levels
 pub mod Places
 pub mod Cuts

@@ -62,7 +62,7 @@ parts_some by (b ∷ bs) (suc k) = parts_some by bs k
 none_starts : (by : List ℕ) → 0 < length by → starts_with nat_eq [] by ≡ false
 none_starts by some = starts-no [] by (λ rest e. absurd (omega (arith, ap length e, length-append by rest)))
 
-parts_found : (by text : List ℕ) (i : ℕ) → 0 < length by → Some i ≡ first_place by text → parts by text ≡ take i text ∷ parts by (drop (i + length by) text)
+pub parts_found : (by text : List ℕ) (i : ℕ) → 0 < length by → Some i ≡ first_place by text → parts by text ≡ take i text ∷ parts by (drop (i + length by) text)
 parts_found by [] i some is = let e : Some i ≡ None = is ∙ ap (λ t. if t then Some 0 else None) (none_starts by some) in cc
 parts_found by (b ∷ bs) i some is =
     bool_cases (starts_with nat_eq (b ∷ bs) by) (λ t. Some i ≡ (if t then Some 0 else option_map (λ n. suc n) (first_place by bs)) → (if t then [] ∷ parts_after (length by - 1) by bs else onto_first b (parts_after 0 by bs)) ≡ take i (b ∷ bs) ∷ parts by (drop (i + length by) (b ∷ bs)))
@@ -79,7 +79,7 @@ parts_found by (b ∷ bs) i some is =
     refl at)
     is
 
-parts_missing : (by text : List ℕ) → None ≡ first_place by text → parts by text ≡ text ∷ []
+pub parts_missing : (by text : List ℕ) → None ≡ first_place by text → parts by text ≡ text ∷ []
 parts_missing by [] is = refl
 parts_missing by (b ∷ bs) is =
     bool_cases (starts_with nat_eq (b ∷ bs) by) (λ t. None ≡ (if t then Some 0 else option_map (λ n. suc n) (first_place by bs)) → (if t then [] ∷ parts_after (length by - 1) by bs else onto_first b (parts_after 0 by bs)) ≡ (b ∷ bs) ∷ [])
@@ -113,7 +113,7 @@ parts_last by text is =
     (λ k there e. let no : None ≡ Some (cut by text k) = e in cc)
     is
 
-join_next : (separator part : List ℕ) (ps : List (List ℕ)) → 0 < length ps → joined_texts separator (part ∷ ps) ≡ (part ++ separator) ++ joined_texts separator ps
+pub join_next : (separator part : List ℕ) (ps : List (List ℕ)) → 0 < length ps → joined_texts separator (part ∷ ps) ≡ (part ++ separator) ++ joined_texts separator ps
 join_next separator part [] some = absurd (omega arith)
 join_next separator part (p ∷ ps) some = ap (λ t. part ++ t) (append_assoc separator p _) ∙ sym (append_assoc part separator _)
 

@@ -1,3 +1,4 @@
+pub mod Laws
 pub mod Directives
 pub mod Drafts
 pub mod Plain

@@ -9,6 +9,7 @@ mod edges;
 mod format_tests;
 pub mod formats;
 mod joins;
+mod laws;
 #[cfg(test)]
 mod limit_tests;
 mod methods;
@@ -24,4 +25,5 @@ mod worlds;
 
 pub use calls::string_call;
 pub use formats::format_text;
+pub use laws::{a_part_is_contained, a_place_is_the_first, a_split_joins_again};
 pub use texts::text_of;

@@ -64,7 +64,7 @@ fn push_literal(alloc: Global, out: &mut String, value: &Literal) -> Result<(), 
     Ok(())
 }
 
-fn push_names(out: &mut String, names: &[Name], between: &str) -> Result<(), Fail> {
+pub fn push_names(out: &mut String, names: &[Name], between: &str) -> Result<(), Fail> {
     let mut first = true;
     for name in names {
         if !first {
@@ -329,7 +329,7 @@ fn size_text(alloc: Global, tree: &Expr) -> Result<String, Fail> {
     Ok(format!(in alloc; "{n}")?)
 }
 
-fn error_text(alloc: Global, error: SolveError) -> Result<String, Fail> {
+pub fn error_text(alloc: Global, error: SolveError) -> Result<String, Fail> {
     match error {
         SolveError::Fault(fault) => {
             let place = fault.place;
@@ -352,7 +352,7 @@ fn found_text(alloc: Global, tokens: &[Token], tree: &Expr, at: usize) -> Result
 }
 
 /// Whether the last token is the file's end.
-fn is_ended(tokens: &[Token]) -> bool
+pub fn is_ended(tokens: &[Token]) -> bool
     ensures { result ≡ true → IsEnded tokens.now }
 {
     tokens.len() > 0 && sees(tokens, tokens.len() - 1, Mark::End)

@@ -5,13 +5,13 @@ ghost use Rattle.gd_syntax.specs.TokenReading.{IsEnded};
 use crate::blocks::block;
 use gd_exprs::reader::{place_at, sees};
 use gd_syntax::{
-    AssignOp, Declared, Expr, Literal, Mark, Name, Pattern, Simple, SolveError, Stmt, Token,
-    TypeName,
+    AssignOp, Declared, Expr, Literal, Mark, Name, Pattern, PatternEntry, Simple, SolveError, Stmt,
+    Token, TypeName,
 };
 use gd_tokens::tokens;
 use std::alloc::Global;
 use std::test::Fail;
-use tree_lists::{Boxed, Items};
+use tree_lists::Items;
 
 /// What is still to be printed, the next at the end.
 #[derive(Clone, Copy)]
@@ -167,17 +167,14 @@ fn later_patterns<'a>(stack: &mut Vec<Work<'a>>, items: &'a [Pattern]) -> Result
     Ok(())
 }
 
-fn later_entries<'a>(
-    stack: &mut Vec<Work<'a>>,
-    items: &'a [(Literal, Option<Boxed<Pattern>>)],
-) -> Result<(), Fail> {
+fn later_entries<'a>(stack: &mut Vec<Work<'a>>, items: &'a [PatternEntry]) -> Result<(), Fail> {
     let mut first = true;
     for item in items.iter().rev() {
         later_comma(stack, first)?;
-        if let Some(value) = &item.1 {
+        if let Some(value) = &item.value {
             later(stack, &[Work::Word(": "), Work::Case(value.get())])?;
         }
-        later(stack, &[Work::Value(&item.0)])?;
+        later(stack, &[Work::Value(&item.key)])?;
         first = false;
     }
     Ok(())
@@ -268,6 +265,17 @@ fn later_simple<'a>(stack: &mut Vec<Work<'a>>, tree: &'a Simple) -> Result<(), F
     }
 }
 
+/// A line ends in `;`, and ` ; ` parts its statements.
+fn later_line<'a>(stack: &mut Vec<Work<'a>>, all: &'a [Simple]) -> Result<(), Fail> {
+    let mut is_last = true;
+    for simple in all.iter().rev() {
+        later(stack, &[Work::Word(if is_last { ";" } else { " ; " })])?;
+        later_simple(stack, simple)?;
+        is_last = false;
+    }
+    Ok(())
+}
+
 fn later_block<'a>(stack: &mut Vec<Work<'a>>, body: &'a [Stmt]) -> Result<(), Fail> {
     later(stack, &[Work::Word("}")])?;
     for statement in body.iter().rev() {
@@ -310,10 +318,7 @@ fn later_match<'a>(
 
 fn later_statement<'a>(stack: &mut Vec<Work<'a>>, tree: &'a Stmt) -> Result<(), Fail> {
     match tree {
-        Stmt::Simple(simple) => {
-            later(stack, &[Work::Word(";")])?;
-            later_simple(stack, simple)
-        }
+        Stmt::Line(_, all) => later_line(stack, all.as_slice()),
         Stmt::If(_, branches, other) => later_if(stack, branches.as_slice(), other),
         Stmt::For(_, name, kind, subject, body) => {
             later_block(stack, body.as_slice())?;

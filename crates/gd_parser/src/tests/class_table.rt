@@ -62,8 +62,9 @@ fn functions(rt: HostRuntime) -> Result<(), Fail> {
             (b"func f() -> int: return 1\n", "1:1 func f() -> int {1}"),
             (
                 b"func f() -> void: pass; pass\n",
-                "1:1 func f() -> void {2}",
+                "1:1 func f() -> void {1}",
             ),
+            (b"func f():\n\tpass; pass\n\tpass\n", "1:1 func f() {2}"),
             (b"func f():\n\tpass\n\tpass\n\tpass\n", "1:1 func f() {3}"),
             (b"static func f(): pass\n", "1:1 static func f() {1}"),
             (b"func f(a = 1, b): pass\n", "Syntax 1:16"),

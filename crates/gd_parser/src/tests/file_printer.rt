@@ -247,14 +247,14 @@ fn push_member<'a>(
         Member::Enum(tree) => push_enum(alloc, out, tree),
         Member::Signal(tree) => push_signal(alloc, out, tree),
         Member::Func(tree) => push_func(alloc, out, tree),
-        Member::Class(place, name, base, members) => {
-            push_place(alloc, out, *place)?;
+        Member::Class(tree) => {
+            push_place(alloc, out, tree.place)?;
             out.push_str("class ")?;
-            out.push_str(name.name.as_str())?;
-            push_extends(out, base)?;
+            out.push_str(tree.name.name.as_str())?;
+            push_extends(out, &tree.base)?;
             out.push_str(" {")?;
             stack.push(Work::Word("}"))?;
-            later(stack, members.as_slice())
+            later(stack, tree.members.as_slice())
         }
     }
 }

@@ -176,6 +176,60 @@ fn variables_and_constants(rt: HostRuntime) -> Result<(), Fail> {
             (b"const A\n", 1, "Syntax 1:8"),
             (b"const X:\n", 1, "Syntax 1:9"),
             (b"const A = 1:\n", 1, "Syntax 1:12"),
+            (
+                b"const X = preload(\"uid://a\")\n",
+                1,
+                "Unsupported(uid path) 1:19",
+            ),
+        ],
+    )
+}
+
+#[test]
+fn what_is_not_supported(rt: HostRuntime) -> Result<(), Fail> {
+    check(
+        &rt,
+        &[
+            (b"var a = b ** c\n", 1, "Unsupported(power) 1:11"),
+            (b"var a = await b\n", 1, "Unsupported(await) 1:9"),
+            (b"var a = typeof(b)\n", 1, "Unsupported(typeof) 1:9"),
+            (b"var a = &\"b\"\n", 1, "Unsupported(string name) 1:9"),
+            (b"var a = ^\"b\"\n", 1, "Unsupported(node path) 1:9"),
+            (b"var a = %B\n", 1, "Unsupported(unique node) 1:9"),
+            (b"var a = load(b)\n", 1, "Unsupported(computed load) 1:14"),
+            (b"var a = func(): pass\n", 1, "Unsupported(lambda) 1:9"),
+            (
+                b"func f():\n\tbreakpoint\n",
+                1,
+                "Unsupported(breakpoint) 2:2",
+            ),
+            (
+                b"func f():\n\tmatch a:\n\t\tb when c: pass\n",
+                1,
+                "Unsupported(when) 3:5",
+            ),
+        ],
+    )
+}
+
+#[test]
+fn statements_of_a_function(rt: HostRuntime) -> Result<(), Fail> {
+    check(
+        &rt,
+        &[
+            (
+                b"func f():\n\tif a: pass\n\telif b:\n\t\tpass\n\telse: pass\n\tfor c in d: pass\n\twhile e: break\n\tmatch g:\n\t\t_: pass\n\treturn\n",
+                1,
+                "1:1 func f() {5}",
+            ),
+            (
+                b"func f():\n\tif a: pass\n\telse: pass\n\telif b: pass\n",
+                1,
+                "Syntax 4:2",
+            ),
+            (b"func f():\n\tfor 1 in d: pass\n", 1, "Syntax 2:6"),
+            (b"func f():\n\twhile e pass\n", 1, "Syntax 2:10"),
+            (b"func f():\n\tmatch g: pass\n", 1, "Syntax 2:11"),
         ],
     )
 }

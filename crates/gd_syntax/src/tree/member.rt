@@ -90,7 +90,18 @@ pub struct Func {
     pub body: Items<Stmt>,
 }
 
+/// An inner class.
+#[cycle(member)]
+#[derive(Debug, PartialEq, Drop)]
+pub struct Class {
+    pub place: Place,
+    pub name: Identifier,
+    pub base: Option<Base>,
+    pub members: Items<Member>,
+}
+
 /// A member of a class. The place is that of its first token.
+#[cycle(member)]
 #[derive(Debug, PartialEq, Drop)]
 pub enum Member {
     Pass(Place),
@@ -99,8 +110,7 @@ pub enum Member {
     Enum(Enum),
     Signal(Signal),
     Func(Func),
-    /// an inner class: its name, its base and its members
-    Class(Place, Identifier, Option<Base>, Items<Member>),
+    Class(Class),
 }
 
 /// A file.

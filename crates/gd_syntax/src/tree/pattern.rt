@@ -5,7 +5,17 @@ use crate::name::Name;
 use crate::tree::{Identifier, Literal};
 use tree_lists::{Boxed, Items};
 
+/// `key: pattern` in a dictionary, where the pattern may be missing.
+#[cycle(pattern)]
+#[derive(Debug, PartialEq, Drop)]
+pub struct PatternEntry {
+    pub place: Place,
+    pub key: Literal,
+    pub value: Option<Boxed<Pattern>>,
+}
+
 /// A pattern of a `match`. The place is that of its first token.
+#[cycle(pattern)]
 #[derive(Debug, PartialEq, Drop)]
 pub enum Pattern {
     /// `_`
@@ -19,5 +29,5 @@ pub enum Pattern {
     /// `[p, ..]`, and whether more items may follow
     Array(Place, Items<Pattern>, bool),
     /// `{k: p, ..}`, and whether there may be more entries
-    Dict(Place, Items<(Literal, Option<Boxed<Pattern>>)>, bool),
+    Dict(Place, Items<PatternEntry>, bool),
 }

@@ -39,7 +39,8 @@ pub enum Simple {
 /// A statement. The place is that of its first token. A block is a list of statements.
 #[derive(Debug, PartialEq, Drop)]
 pub enum Stmt {
-    Simple(Simple),
+    /// the simple statements of a line
+    Line(Place, Items<Simple>),
     /// the conditions of `if` and `elif` with their blocks, and the block of `else`
     If(Place, Items<(Expr, Items<Stmt>)>, Option<Items<Stmt>>),
     For(Place, Identifier, Option<TypeName>, Expr, Items<Stmt>),

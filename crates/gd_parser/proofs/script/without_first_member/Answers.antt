@@ -6,7 +6,7 @@ use Rattle.std.proofs.Common.{refl, sym, ◌∙◌}
 use Rattle.gd_parser.proofs.script.without_first_member.Goals as goal
 
 pub returns-then-behind_field : goal.returns-then-behind_field
-returns-then-behind_field c = record { reads = rw (c.refuse.ensures) (halts (no_member_refused c.args.tokens.now anywhere c.args.sofar.behind.items c.args.at _ (sym c.requires.told.field ∙ c.if-behind_field.true) refl)) }
+returns-then-behind_field c = record { reads = rw (c.refuse.ensures) (halts (no_member_refused c.args.tokens.now anywhere c.args.sofar.behind.items c.args.at _ (sym c.requires.flags.field ∙ c.if-behind_field.true) refl)) }
 
 pub returns : goal.returns
-returns c = record { reads = let h = rw (c.in_ok-all.ensures, c.new.ensures) at c.rest.ensures.reads in answers_by _ _ _ _ c.rest.result (λ x a. goes (no_member_given c.args.tokens.now anywhere c.args.sofar.behind.items c.args.at _ (sym c.requires.told.field ∙ c.if-behind_field.false) refl) a) (λ x a. goes (no_member_given c.args.tokens.now anywhere c.args.sofar.behind.items c.args.at _ (sym c.requires.told.field ∙ c.if-behind_field.false) refl) a) h }
+returns c = record { reads = let h = rw (c.in_ok-all.ensures, c.new.ensures) at c.rest.ensures.reads in answers_by _ _ _ _ c.rest.result (λ x a. goes (no_member_given c.args.tokens.now anywhere c.args.sofar.behind.items c.args.at _ (sym c.requires.flags.field ∙ c.if-behind_field.false) refl) a) (λ x a. goes (no_member_given c.args.tokens.now anywhere c.args.sofar.behind.items c.args.at _ (sym c.requires.flags.field ∙ c.if-behind_field.false) refl) a) h }

@@ -1,4 +1,3 @@
-use Rattle.gd_parser.proofs.PatternParts.{entries_alike}
 use Rattle.gd_syntax.proofs.Steps.{exit}
 use Rattle.gd_syntax.proofs.Targets.{binds-Dict}
 use Rattle.gd_syntax.specs.Reading.{Read}
@@ -19,4 +18,4 @@ pub returns-clause-reads : goal.returns-clause-reads
 returns-clause-reads g c = goes (ap (λ n. Read tt n) c.skip.ensures.next) (goes (goes c.in_ok-items.ensures.reads (goes c.in_ok-unended.ensures.reads (goes c.in_ok-end.ensures.reads refl))) (rw (c.place_at-place.ensures)))
 
 pub returns-clause-found : goal.returns-clause-found
-returns-clause-found g c = record { binds = c.in_ok-items.ensures.found.binds ∙ entries_alike c.in_ok-items.field-0.items ∙ sym (binds-Dict _ _ _); after = omega (arith, c.in_ok-items.ensures.found.after, c.in_ok-unended.ensures.after, c.in_ok-end.ensures.next, c.skip.ensures.next); within = c.in_ok-end.ensures.within }
+returns-clause-found g c = record { binds = c.in_ok-items.ensures.found.binds ∙ sym (binds-Dict _ _ _); after = omega (arith, c.in_ok-items.ensures.found.after, c.in_ok-unended.ensures.after, c.in_ok-end.ensures.next, c.skip.ensures.next); within = c.in_ok-end.ensures.within }

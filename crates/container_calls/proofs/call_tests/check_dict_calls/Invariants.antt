@@ -1,0 +1,11 @@
+use Rattle.std.proofs.Common.{◌≡◌, true}
+use Rattle.variant_values.specs.declared.values.Value.TheVariants.{Dict}
+use Rattle.variant_values.specs.Heaps.{knows}
+use Rattle.variant_values.specs.Changes.{Keeps}
+use Rattle.container_calls.proofs.call_tests.check_dict_calls.Given as goal
+
+abbrev pub invariant-loop-case : goal.invariant-loop-case
+invariant-loop-case g l = record {
+  dict : knows l.heap.cells (Dict l.d) ≡ true;
+  keeps : Keeps l.fn.heap.cells l.heap.cells;
+}
