@@ -17,47 +17,9 @@ use Rattle.variant_values.specs.declared.values.Value.TheVariants.{Null}
 use Rattle.variant_values.specs.Keys.{same_key, with_entry, HasKeysOnce}
 use Rattle.variant_values.specs.Places.{entry_weight}
 use Rattle.variant_values.specs.DictMethods.{merged, with_missing}
+use Rattle.variant_values.proofs.SameKeys.{same_is, same_own}
 use Rattle.call_support.proofs.Once.{apart_too}
 use Rattle.bulk_changes.specs.Merges.{key_more, keys_more, weight_less, weight_more, weights_less, weights_more, with_put}
-
-same_text : (a b : List ℕ) → pointwise nat_eq a b ≡ true → a ≡ b
-same_text [] [] h = refl
-same_text [] (y ∷ ys) h = absurd (false≢true h)
-same_text (x ∷ xs) [] h = absurd (false≢true h)
-same_text (x ∷ xs) (y ∷ ys) h =
-    let parts = and_parts (nat_eq x y) (pointwise nat_eq xs ys) h in
-    ap (λ z. z ∷ xs) (eqb-true x y parts.0) ∙ ap (λ zs. y ∷ zs) (same_text xs ys parts.1)
-
-same_truth : (a b : Bool) → beq a b ≡ true → a ≡ b
-same_truth true true h = refl
-same_truth true false h = absurd (false≢true h)
-same_truth false true h = absurd (false≢true h)
-same_truth false false h = refl
-
--- keys that are one are equal
-pub same_is : (a b : Key) → same_key a b ≡ true → a ≡ b
-same_is (KeyTruth a) (KeyTruth b) h = ap KeyTruth (same_truth a b h)
-same_is (KeyTruth a) (KeyInt b) h = absurd (false≢true h)
-same_is (KeyTruth a) (KeyStr b) h = absurd (false≢true h)
-same_is (KeyTruth a) (KeyObject b) h = absurd (false≢true h)
-same_is (KeyInt a) (KeyTruth b) h = absurd (false≢true h)
-same_is (KeyInt a) (KeyInt b) h = ap KeyInt ((Decides-int_eq a b).0 h)
-same_is (KeyInt a) (KeyStr b) h = absurd (false≢true h)
-same_is (KeyInt a) (KeyObject b) h = absurd (false≢true h)
-same_is (KeyStr a) (KeyTruth b) h = absurd (false≢true h)
-same_is (KeyStr a) (KeyInt b) h = absurd (false≢true h)
-same_is (KeyStr a) (KeyStr b) h = ap KeyStr (same_text a b h)
-same_is (KeyStr a) (KeyObject b) h = absurd (false≢true h)
-same_is (KeyObject a) (KeyTruth b) h = absurd (false≢true h)
-same_is (KeyObject a) (KeyInt b) h = absurd (false≢true h)
-same_is (KeyObject a) (KeyStr b) h = absurd (false≢true h)
-same_is (KeyObject a) (KeyObject b) h = ap (λ n. KeyObject (record { 0 = n })) (eqb-true a.0 b.0 h)
-
-pub same_own : (k : Key) → same_key k k ≡ true
-same_own (KeyTruth b) = bool_eq_equiv.refl b
-same_own (KeyInt n) = int_eq_equiv.refl n
-same_own (KeyStr s) = nat_list_eq_equiv.refl s
-same_own (KeyObject s) = nat_eq_equiv.refl s.0
 
 -- what is apart from one of two equal keys is apart from the other
 other_apart : (g k e : Key) → same_key g k ≡ false → same_key k e ≡ true → same_key g e ≡ false

@@ -1,5 +1,5 @@
 -- An array grows by new containers.
-use Rattle.std.proofs.Common.{◌≡◌, ◌∙◌, ap, sym, subst, refl, ℕ, zero, suc, ◌+◌, ◌-◌, ◌*◌, ◌<◌, ◌≤◌, ◌^◌, true, List, [], ◌∷◌, ◌++◌, append_assoc, length, take, drop, get_or, Option, Some, None, arith, cond, ◌&&◌, nat_le, pos, Result, Ok, Err}
+use Rattle.std.proofs.Common.{◌≡◌, ◌∙◌, ap, sym, subst, refl, ℕ, zero, suc, ◌+◌, ◌-◌, ◌*◌, ◌<◌, ◌≤◌, ◌^◌, Bool, true, false, List, [], ◌∷◌, ◌++◌, append_assoc, length, take, drop, get_or, Option, Some, None, arith, cond, ◌&&◌, nat_le, pos, Result, Ok, Err}
 use Rattle.std.specs.Prelude.{replicate}
 use Rattle.std.specs.List.{sum_by}
 use Rattle.std.proofs.lemmas.Bool.{le-leb, lt-leb, and_from}
@@ -75,13 +75,15 @@ module _ (kind : Container) (now next : Heap) (count i : ℕ) (within : i < coun
   pub cells_next : with_more next (empty_cell kind) (count - (i + 1)) ≡ with_more now (empty_cell kind) (count - i)
   cells_next = ap (λ h. with_more h (empty_cell kind) (count - (i + 1))) ok ∙ sym (ap (with_more now (empty_cell kind)) left)
 
+  pub length_next : length next.cells ≡ length now.cells + 1
+  length_next = ap (λ (h : Heap). length h.cells) ok ∙ length_push now.cells (Some (empty_cell kind))
+
   pub row_next : (list all : List Value) (v : Value) → v ≡ named kind (next_serial now) → all ≡ list ++ v ∷ [] → all ++ in_a_row (named kind) (length next.cells) (count - (i + 1)) ≡ list ++ in_a_row (named kind) (length now.cells) (count - i)
   row_next list all v is e =
-      let grown : length next.cells ≡ length now.cells + 1 = ap (λ (h : Heap). length h.cells) ok ∙ length_push now.cells (Some (empty_cell kind)) in
       ap (λ vs. vs ++ in_a_row (named kind) (length next.cells) (count - (i + 1))) e
       ∙ append_assoc list (v ∷ []) (in_a_row (named kind) (length next.cells) (count - (i + 1)))
       ∙ ap (λ w. list ++ (w ∷ in_a_row (named kind) (length next.cells) (count - (i + 1)))) is
-      ∙ ap (λ first. list ++ (named kind (next_serial now) ∷ in_a_row (named kind) first (count - (i + 1)))) grown
+      ∙ ap (λ first. list ++ (named kind (next_serial now) ∷ in_a_row (named kind) first (count - (i + 1)))) length_next
       ∙ sym (ap (λ n. list ++ in_a_row (named kind) (length now.cells) n) left)
 
   pub weight_next : weight next.cells ≡ weight now.cells + 16
@@ -93,6 +95,14 @@ known_next now next list all v keeps known here e = subst (λ (vs : List Value).
 -- the heap that is too heavy, and the one that is not
 too_heavy : (h : Heap) (v : Value) → 67108864 < weight h.cells → placed h v ≡ Err HeapFull
 too_heavy h v heavy = ap (λ b. cond (b && nat_le (length h.cells) (2 ^ 64)) (Ok (v, h)) (Err HeapFull)) (lt-leb (weight h.cells) 67108864 heavy)
+
+-- and the one that has no serial for each of its cells
+neither : {A : Type 0} (b : Bool) (x y : A) → cond (b && false) x y ≡ y
+neither true x y = refl
+neither false x y = refl
+
+too_many : (h : Heap) (v : Value) → 2 ^ 64 < length h.cells → placed h v ≡ Err HeapFull
+too_many h v many = ap (λ b. cond (nat_le (weight h.cells) 67108864 && b) (Ok (v, h)) (Err HeapFull)) (lt-leb (length h.cells) (2 ^ 64) many) ∙ neither (nat_le (weight h.cells) 67108864) (Ok (v, h)) (Err HeapFull)
 
 has_room : (h : Heap) (v : Value) → weight h.cells ≤ 67108864 → length h.cells ≤ 2 ^ 64 → placed h v ≡ Ok (v, h)
 has_room h v light few = ap (λ b. cond b (Ok (v, h)) (Err HeapFull)) (and_from (nat_le (weight h.cells) 67108864) (nat_le (length h.cells) (2 ^ 64)) (le-leb (weight h.cells) 67108864 light) (le-leb (length h.cells) (2 ^ 64) few))
@@ -121,6 +131,9 @@ module _ (old : Heap) (x : ℕ) (a : is_array (cell_at old.cells x) ≡ true) (k
 
   pub grown_full : 67108864 < weight old.cells + 18 * n → put_last (row, more) x ≡ Err HeapFull
   grown_full heavy = too_heavy last (Int (pos 0)) (omega (arith, last_is))
+
+  pub grown_many : 2 ^ 64 < length old.cells + n → put_last (row, more) x ≡ Err HeapFull
+  grown_many many = too_many last (Int (pos 0)) (omega (arith, many, last_length))
 
   pub grown_ok : (r : Result Value Trouble) (mid new : Heap) (put : List Value) → mid ≡ more → put ≡ row → weight old.cells + 18 * n ≤ 67108864 → length old.cells + n ≤ 2 ^ 64 → HasGiven r mid new (put_last (put, mid) x) → HasGiven r old new (put_last (row, more) x)
   grown_ok r mid new put m p light few h =

@@ -9,7 +9,8 @@ use Rattle.variant_values.specs.Keys.{same_key, with_entry, HasKeysOnce}
 use Rattle.variant_values.specs.DictMethods.{merged, with_missing}
 use Rattle.call_support.proofs.Once.{apart_too}
 use Rattle.bulk_changes.specs.Merges.{lacking, lacks, with_put}
-use Rattle.bulk_changes.proofs.Entries.{apart_lookup, own_lookup, same_is}
+use Rattle.bulk_changes.proofs.Entries.{apart_lookup, own_lookup}
+use Rattle.variant_values.proofs.SameKeys.{same_is}
 
 pub found_overwritten : (es fs : List (Key × Value)) (k : Key) → HasKeysOnce fs → lookup (same_key k) (merged true es fs) ≡ option_or (lookup (same_key k) fs) (lookup (same_key k) es)
 found_overwritten es [] k once = refl

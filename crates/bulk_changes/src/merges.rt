@@ -83,12 +83,12 @@ fn sum_up(entries: &Entries, put: &Entries, overwrite: bool) -> Tally
 
 /// Whether the entries of another dictionary may all be put in. It is decided on the whole, before anything changes.
 fn fits(heap: &Heap, of: Serial, other: Serial, overwrite: bool) -> Result<(), RunFault>
-    requires dict { is_dict (cell_at heap.now.cells of.0) ≡ true }
-    requires other { is_dict (cell_at heap.now.cells other.0) ≡ true }
-    ensures count { OnOk result (length (merged overwrite (entries_in heap.now of.0) (entries_in heap.now other.0)) ≤ 1048576) }
-    ensures light { OnOk result (weight (with_entries heap.now of.0 (merged overwrite (entries_in heap.now of.0) (entries_in heap.now other.0))).cells ≤ 67108864) }
-    ensures once { HasKeysOnce (entries_in heap.now other.0) }
-    ensures err { IfErr result (λ fault. merge_of heap.now of.0 other.0 overwrite ≡ Err fault) }
+    requires dict { is_dict (cell_at heap.now.state.cells of.0) ≡ true }
+    requires other { is_dict (cell_at heap.now.state.cells other.0) ≡ true }
+    ensures count { OnOk result (length (merged overwrite (entries_in heap.now.state of.0) (entries_in heap.now.state other.0)) ≤ 1048576) }
+    ensures light { OnOk result (weight (with_entries heap.now.state of.0 (merged overwrite (entries_in heap.now.state of.0) (entries_in heap.now.state other.0))).cells ≤ 67108864) }
+    ensures once { HasKeysOnce (entries_in heap.now.state other.0) }
+    ensures err { IfErr result (λ fault. merge_of heap.now.state of.0 other.0 overwrite ≡ Err fault) }
 {
     let (before, put) = (entries(heap, of), entries(heap, other));
     let tally = sum_up(before, put, overwrite);
@@ -103,25 +103,25 @@ fn fits(heap: &Heap, of: Serial, other: Serial, overwrite: bool) -> Result<(), R
 
 /// Puts an entry in, which the heap has room for.
 fn enter(heap: &mut Heap, of: Serial, key: Key, value: Value) -> Result<(), Trouble>
-    requires dict { is_dict (cell_at heap.old.cells of.0) ≡ true }
-    requires key { knows_key heap.old.cells key ≡ true }
-    requires value { knows heap.old.cells value ≡ true }
-    requires room { weight (with_entry_at heap.old of.0 key value).cells ≤ 67108864 }
-    ensures ok { OnOk result (heap.new ≡ with_entry_at heap.old of.0 key value) }
+    requires dict { is_dict (cell_at heap.old.state.cells of.0) ≡ true }
+    requires key { knows_key heap.old.state.cells key ≡ true }
+    requires value { knows heap.old.state.cells value ≡ true }
+    requires room { weight (with_entry_at heap.old.state of.0 key value).cells ≤ 67108864 }
+    ensures ok { OnOk result (heap.new.state ≡ with_entry_at heap.old.state of.0 key value) }
     ensures memory { IfErr result (λ e. e ≡ Trouble.NoMemory) }
-    ensures keeps { Keeps heap.old.cells heap.new.cells }
+    ensures keeps { Keeps heap.old.state.cells heap.new.state.cells }
 {
     set_entry(heap, of, key, value)
 }
 
 /// Makes the value null that another dictionary's key at an index has, where it is there. Null is the lightest value.
 fn set_null_at(heap: &mut Heap, of: Serial, other: Serial, index: usize) -> Result<(), Trouble>
-    requires dict { is_dict (cell_at heap.old.cells of.0) ≡ true }
-    requires other { is_dict (cell_at heap.old.cells other.0) ≡ true }
-    requires index { index < length (entries_in heap.old other.0) }
-    ensures ok { OnOk result ((f : AKey × AValue) → slice_get (entries_in heap.old other.0) index ≡ Some f → heap.new ≡ cond (is_some (lookup (same_key f.0) (entries_in heap.old of.0))) (with_entry_at heap.old of.0 f.0 Null) heap.old) }
+    requires dict { is_dict (cell_at heap.old.state.cells of.0) ≡ true }
+    requires other { is_dict (cell_at heap.old.state.cells other.0) ≡ true }
+    requires index { index < length (entries_in heap.old.state other.0) }
+    ensures ok { OnOk result ((f : AKey × AValue) → slice_get (entries_in heap.old.state other.0) index ≡ Some f → heap.new.state ≡ cond (is_some (lookup (same_key f.0) (entries_in heap.old.state of.0))) (with_entry_at heap.old.state of.0 f.0 Null) heap.old.state) }
     ensures memory { IfErr result (λ e. e ≡ Trouble.NoMemory) }
-    ensures keeps { Keeps heap.old.cells heap.new.cells }
+    ensures keeps { Keeps heap.old.state.cells heap.new.state.cells }
 {
     heap.is_sound();
     let (key, _) = entries(heap, other).entry_at(index);
@@ -135,12 +135,12 @@ fn set_null_at(heap: &mut Heap, of: Serial, other: Serial, index: usize) -> Resu
 
 /// Makes the value of each key null that is there and is put in, so that the weight only rises afterwards.
 fn set_nulls(heap: &mut Heap, of: Serial, other: Serial) -> Result<(), Trouble>
-    requires dict { is_dict (cell_at heap.old.cells of.0) ≡ true }
-    requires other { is_dict (cell_at heap.old.cells other.0) ≡ true }
+    requires dict { is_dict (cell_at heap.old.state.cells of.0) ≡ true }
+    requires other { is_dict (cell_at heap.old.state.cells other.0) ≡ true }
     requires apart { other.0 ≢ of.0 }
-    ensures ok { OnOk result (HasNulls heap.old heap.new of.0 (entries_in heap.old other.0) (entries_in heap.old other.0)) }
+    ensures ok { OnOk result (HasNulls heap.old.state heap.new.state of.0 (entries_in heap.old.state other.0) (entries_in heap.old.state other.0)) }
     ensures memory { IfErr result (λ e. e ≡ Trouble.NoMemory) }
-    ensures keeps { Keeps heap.old.cells heap.new.cells }
+    ensures keeps { Keeps heap.old.state.cells heap.new.state.cells }
 {
     for i in 0..entries(heap, other).len() {
         set_null_at(heap, of, other, i)?;
@@ -156,13 +156,13 @@ fn enter_at(
     index: usize,
     overwrite: bool,
 ) -> Result<(), Trouble>
-    requires dict { is_dict (cell_at heap.old.cells of.0) ≡ true }
-    requires other { is_dict (cell_at heap.old.cells other.0) ≡ true }
-    requires index { index < length (entries_in heap.old other.0) }
-    requires room { (f : AKey × AValue) → slice_get (entries_in heap.old other.0) index ≡ Some f → weight (with_entries heap.old of.0 (with_put overwrite (entries_in heap.old of.0) f)).cells ≤ 67108864 }
-    ensures ok { OnOk result ((f : AKey × AValue) → slice_get (entries_in heap.old other.0) index ≡ Some f → heap.new ≡ with_entries heap.old of.0 (with_put overwrite (entries_in heap.old of.0) f)) }
+    requires dict { is_dict (cell_at heap.old.state.cells of.0) ≡ true }
+    requires other { is_dict (cell_at heap.old.state.cells other.0) ≡ true }
+    requires index { index < length (entries_in heap.old.state other.0) }
+    requires room { (f : AKey × AValue) → slice_get (entries_in heap.old.state other.0) index ≡ Some f → weight (with_entries heap.old.state of.0 (with_put overwrite (entries_in heap.old.state of.0) f)).cells ≤ 67108864 }
+    ensures ok { OnOk result ((f : AKey × AValue) → slice_get (entries_in heap.old.state other.0) index ≡ Some f → heap.new.state ≡ with_entries heap.old.state of.0 (with_put overwrite (entries_in heap.old.state of.0) f)) }
     ensures memory { IfErr result (λ e. e ≡ Trouble.NoMemory) }
-    ensures keeps { Keeps heap.old.cells heap.new.cells }
+    ensures keeps { Keeps heap.old.state.cells heap.new.state.cells }
 {
     let (key, value) = entries(heap, other).entry_at(index);
     if !overwrite && entries(heap, of).get(key).is_some() {
@@ -175,14 +175,14 @@ fn enter_at(
 /// Puts copies of another dictionary's entries in, where the heap has room for all, and the values that they overwrite weigh
 /// nothing.
 fn enter_all(heap: &mut Heap, of: Serial, other: Serial, overwrite: bool) -> Result<(), Trouble>
-    requires dict { is_dict (cell_at heap.old.cells of.0) ≡ true }
-    requires other { is_dict (cell_at heap.old.cells other.0) ≡ true }
+    requires dict { is_dict (cell_at heap.old.state.cells of.0) ≡ true }
+    requires other { is_dict (cell_at heap.old.state.cells other.0) ≡ true }
     requires apart { other.0 ≢ of.0 }
-    requires light { weights_less overwrite (entries_in heap.old of.0) (entries_in heap.old other.0) ≡ 0 }
-    requires room { weight (with_entries heap.old of.0 (merged overwrite (entries_in heap.old of.0) (entries_in heap.old other.0))).cells ≤ 67108864 }
-    ensures ok { OnOk result (heap.new ≡ with_entries heap.old of.0 (merged overwrite (entries_in heap.old of.0) (entries_in heap.old other.0))) }
+    requires light { weights_less overwrite (entries_in heap.old.state of.0) (entries_in heap.old.state other.0) ≡ 0 }
+    requires room { weight (with_entries heap.old.state of.0 (merged overwrite (entries_in heap.old.state of.0) (entries_in heap.old.state other.0))).cells ≤ 67108864 }
+    ensures ok { OnOk result (heap.new.state ≡ with_entries heap.old.state of.0 (merged overwrite (entries_in heap.old.state of.0) (entries_in heap.old.state other.0))) }
     ensures memory { IfErr result (λ e. e ≡ Trouble.NoMemory) }
-    ensures keeps { Keeps heap.old.cells heap.new.cells }
+    ensures keeps { Keeps heap.old.state.cells heap.new.state.cells }
 {
     for i in 0..entries(heap, other).len() {
         enter_at(heap, of, other, i, overwrite)?;
@@ -192,13 +192,13 @@ fn enter_all(heap: &mut Heap, of: Serial, other: Serial, overwrite: bool) -> Res
 
 /// Puts copies of another dictionary's entries in, each over the value before, where the heap has room for all.
 fn overwrite_all(heap: &mut Heap, of: Serial, other: Serial) -> Result<(), Trouble>
-    requires dict { is_dict (cell_at heap.old.cells of.0) ≡ true }
-    requires other { is_dict (cell_at heap.old.cells other.0) ≡ true }
+    requires dict { is_dict (cell_at heap.old.state.cells of.0) ≡ true }
+    requires other { is_dict (cell_at heap.old.state.cells other.0) ≡ true }
     requires apart { other.0 ≢ of.0 }
-    requires room { weight (with_entries heap.old of.0 (merged true (entries_in heap.old of.0) (entries_in heap.old other.0))).cells ≤ 67108864 }
-    ensures ok { OnOk result (heap.new ≡ with_entries heap.old of.0 (merged true (entries_in heap.old of.0) (entries_in heap.old other.0))) }
+    requires room { weight (with_entries heap.old.state of.0 (merged true (entries_in heap.old.state of.0) (entries_in heap.old.state other.0))).cells ≤ 67108864 }
+    ensures ok { OnOk result (heap.new.state ≡ with_entries heap.old.state of.0 (merged true (entries_in heap.old.state of.0) (entries_in heap.old.state other.0))) }
     ensures memory { IfErr result (λ e. e ≡ Trouble.NoMemory) }
-    ensures keeps { Keeps heap.old.cells heap.new.cells }
+    ensures keeps { Keeps heap.old.state.cells heap.new.state.cells }
 {
     set_nulls(heap, of, other)?;
     enter_all(heap, of, other, true)
@@ -206,13 +206,13 @@ fn overwrite_all(heap: &mut Heap, of: Serial, other: Serial) -> Result<(), Troub
 
 /// Puts copies of another dictionary's entries in, where the heap has room for all.
 fn put_all(heap: &mut Heap, of: Serial, other: Serial, overwrite: bool) -> Result<(), Trouble>
-    requires dict { is_dict (cell_at heap.old.cells of.0) ≡ true }
-    requires other { is_dict (cell_at heap.old.cells other.0) ≡ true }
+    requires dict { is_dict (cell_at heap.old.state.cells of.0) ≡ true }
+    requires other { is_dict (cell_at heap.old.state.cells other.0) ≡ true }
     requires apart { other.0 ≢ of.0 }
-    requires room { weight (with_entries heap.old of.0 (merged overwrite (entries_in heap.old of.0) (entries_in heap.old other.0))).cells ≤ 67108864 }
-    ensures ok { OnOk result (heap.new ≡ with_entries heap.old of.0 (merged overwrite (entries_in heap.old of.0) (entries_in heap.old other.0))) }
+    requires room { weight (with_entries heap.old.state of.0 (merged overwrite (entries_in heap.old.state of.0) (entries_in heap.old.state other.0))).cells ≤ 67108864 }
+    ensures ok { OnOk result (heap.new.state ≡ with_entries heap.old.state of.0 (merged overwrite (entries_in heap.old.state of.0) (entries_in heap.old.state other.0))) }
     ensures memory { IfErr result (λ e. e ≡ Trouble.NoMemory) }
-    ensures keeps { Keeps heap.old.cells heap.new.cells }
+    ensures keeps { Keeps heap.old.state.cells heap.new.state.cells }
 {
     if overwrite {
         overwrite_all(heap, of, other)
@@ -223,11 +223,11 @@ fn put_all(heap: &mut Heap, of: Serial, other: Serial, overwrite: bool) -> Resul
 
 /// Puts the entries of another dictionary in. A present key keeps its place, and its value where none is overwritten.
 pub fn merge(heap: &mut Heap, of: Serial, other: Serial, overwrite: bool) -> Result<Value, Trouble>
-    requires dict { is_dict (cell_at heap.old.cells of.0) ≡ true }
-    requires other { is_dict (cell_at heap.old.cells other.0) ≡ true }
-    ensures given { HasGiven result heap.old heap.new (merge_of heap.old of.0 other.0 overwrite) }
-    ensures keeps { Keeps heap.old.cells heap.new.cells }
-    ensures known { IfOk result (λ v. knows heap.new.cells v ≡ true) }
+    requires dict { is_dict (cell_at heap.old.state.cells of.0) ≡ true }
+    requires other { is_dict (cell_at heap.old.state.cells other.0) ≡ true }
+    ensures given { HasGiven result heap.old.state heap.new.state (merge_of heap.old.state of.0 other.0 overwrite) }
+    ensures keeps { Keeps heap.old.state.cells heap.new.state.cells }
+    ensures known { IfOk result (λ v. knows heap.new.state.cells v ≡ true) }
 {
     fits(heap, of, other, overwrite)?;
     if other.0 == of.0 {

@@ -88,8 +88,8 @@ fn entries_text(alloc: Global, entries: &Entries) -> Result<String, Fail> {
 }
 
 fn add_array(heap: &mut Heap, alloc: Global, of: Option<ElementTag>) -> Result<Serial, Fail>
-    ensures array { IfOk result (λ s. knows heap.new.cells (Value.Array s) ≡ true) }
-    ensures keeps { Keeps heap.old.cells heap.new.cells }
+    ensures array { IfOk result (λ s. knows heap.new.state.cells (Value.Array s) ≡ true) }
+    ensures keeps { Keeps heap.old.state.cells heap.new.state.cells }
 {
     match new_array(heap, Vec::new(alloc), of) {
         Ok(Value::Array(s)) => Ok(s),
@@ -104,8 +104,8 @@ enum Item {
 }
 
 fn put(heap: &mut Heap, s: Serial, key: i64, item: Item, text: &Str) -> Result<(), Fail>
-    requires { knows heap.old.cells (Value.Dict s) ≡ true }
-    ensures { Keeps heap.old.cells heap.new.cells }
+    requires { knows heap.old.state.cells (Value.Dict s) ≡ true }
+    ensures { Keeps heap.old.state.cells heap.new.state.cells }
 {
     match item {
         Item::Int(n) => set_entry(heap, s, Key::Int(key), Value::Int(n))?,
@@ -115,8 +115,8 @@ fn put(heap: &mut Heap, s: Serial, key: i64, item: Item, text: &Str) -> Result<(
 }
 
 fn add_empty(heap: &mut Heap, alloc: Global) -> Result<Serial, Fail>
-    ensures dict { IfOk result (λ s. knows heap.new.cells (Value.Dict s) ≡ true) }
-    ensures keeps { Keeps heap.old.cells heap.new.cells }
+    ensures dict { IfOk result (λ s. knows heap.new.state.cells (Value.Dict s) ≡ true) }
+    ensures keeps { Keeps heap.old.state.cells heap.new.state.cells }
 {
     match new_dict(heap, Entries::new(alloc)) {
         Ok(Value::Dict(s)) => Ok(s),
@@ -125,8 +125,8 @@ fn add_empty(heap: &mut Heap, alloc: Global) -> Result<Serial, Fail>
 }
 
 fn add_dict(heap: &mut Heap, alloc: Global, of: &[(i64, Item)], text: &Str) -> Result<Serial, Fail>
-    ensures dict { IfOk result (λ s. knows heap.new.cells (Value.Dict s) ≡ true) }
-    ensures keeps { Keeps heap.old.cells heap.new.cells }
+    ensures dict { IfOk result (λ s. knows heap.new.state.cells (Value.Dict s) ≡ true) }
+    ensures keeps { Keeps heap.old.state.cells heap.new.state.cells }
 {
     let s = add_empty(heap, alloc)?;
     for (key, item) in of {
@@ -137,8 +137,8 @@ fn add_dict(heap: &mut Heap, alloc: Global, of: &[(i64, Item)], text: &Str) -> R
 
 /// A dictionary of so many heavy strings.
 fn add_rest(heap: &mut Heap, alloc: Global, count: u32, text: &Str) -> Result<Serial, Fail>
-    ensures dict { IfOk result (λ s. knows heap.new.cells (Value.Dict s) ≡ true) }
-    ensures keeps { Keeps heap.old.cells heap.new.cells }
+    ensures dict { IfOk result (λ s. knows heap.new.state.cells (Value.Dict s) ≡ true) }
+    ensures keeps { Keeps heap.old.state.cells heap.new.state.cells }
 {
     let s = add_empty(heap, alloc)?;
     for i in 0..count {
@@ -165,9 +165,9 @@ fn check_merge(
     other: Serial,
     case: &(bool, &str, &str),
 ) -> Result<(), Fail>
-    requires dict { knows heap.old.cells (Value.Dict s) ≡ true }
-    requires other { knows heap.old.cells (Value.Dict other) ≡ true }
-    ensures { Keeps heap.old.cells heap.new.cells }
+    requires dict { knows heap.old.state.cells (Value.Dict s) ≡ true }
+    requires other { knows heap.old.state.cells (Value.Dict other) ≡ true }
+    ensures { Keeps heap.old.state.cells heap.new.state.cells }
 {
     let answer = merge(heap, s, other, case.0);
     assert_eq!(rt; shown(rt.alloc(), &answer)?.as_str(), case.1);
@@ -185,9 +185,9 @@ fn check_merges(
     other: Serial,
     cases: &[(bool, &str, &str)],
 ) -> Result<(), Fail>
-    requires dict { knows heap.old.cells (Value.Dict s) ≡ true }
-    requires other { knows heap.old.cells (Value.Dict other) ≡ true }
-    ensures { Keeps heap.old.cells heap.new.cells }
+    requires dict { knows heap.old.state.cells (Value.Dict s) ≡ true }
+    requires other { knows heap.old.state.cells (Value.Dict other) ≡ true }
+    ensures { Keeps heap.old.state.cells heap.new.state.cells }
 {
     for case in cases {
         check_merge(rt, heap, s, other, case)?;
@@ -264,8 +264,8 @@ fn check_resize(
     s: Serial,
     case: (i64, &str, &str),
 ) -> Result<(), Fail>
-    requires { knows heap.old.cells (Value.Array s) ≡ true }
-    ensures { Keeps heap.old.cells heap.new.cells }
+    requires { knows heap.old.state.cells (Value.Array s) ≡ true }
+    ensures { Keeps heap.old.state.cells heap.new.state.cells }
 {
     let answer = resize(rt.alloc(), heap, s, case.0);
     assert_eq!(rt; shown(rt.alloc(), &answer)?.as_str(), case.1);
@@ -279,7 +279,7 @@ fn check_resizes(
     s: Serial,
     cases: &[(i64, &str, &str)],
 ) -> Result<(), Fail>
-    requires { knows heap.old.cells (Value.Array s) ≡ true }
+    requires { knows heap.old.state.cells (Value.Array s) ≡ true }
 {
     for case in cases {
         check_resize(rt, heap, s, *case)?;
@@ -322,8 +322,8 @@ fn first_values_of_each_type(rt: HostRuntime) -> Result<(), Fail> {
 }
 
 fn array_at(heap: &Heap, s: Serial, index: usize) -> Result<Serial, Fail>
-    requires { knows heap.now.cells (Value.Array s) ≡ true }
-    ensures { IfOk result (λ t. knows heap.now.cells (Value.Array t) ≡ true) }
+    requires { knows heap.now.state.cells (Value.Array s) ≡ true }
+    ensures { IfOk result (λ t. knows heap.now.state.cells (Value.Array t) ≡ true) }
 {
     match items(heap, s).get(index) {
         Some(Value::Array(t)) => Ok(*t),

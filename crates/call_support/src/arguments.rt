@@ -170,9 +170,9 @@ pub fn truth_in(v: &Value) -> Option<bool>
 
 /// An array.
 pub fn array_in(heap: &Heap, v: &Value) -> Option<Serial>
-    requires { knows heap.now.cells v.now ≡ true }
+    requires { knows heap.now.state.cells v.now ≡ true }
     ensures value { result ≡ array_in v.now }
-    ensures array { IfSome result (λ s. is_array (cell_at heap.now.cells s.0) ≡ true) }
+    ensures array { IfSome result (λ s. is_array (cell_at heap.now.state.cells s.0) ≡ true) }
 {
     match v {
         Value::Array(s) => Some(*s),
@@ -182,9 +182,9 @@ pub fn array_in(heap: &Heap, v: &Value) -> Option<Serial>
 
 /// A dictionary.
 pub fn dict_in(heap: &Heap, v: &Value) -> Option<Serial>
-    requires { knows heap.now.cells v.now ≡ true }
+    requires { knows heap.now.state.cells v.now ≡ true }
     ensures value { result ≡ dict_in v.now }
-    ensures dict { IfSome result (λ s. is_dict (cell_at heap.now.cells s.0) ≡ true) }
+    ensures dict { IfSome result (λ s. is_dict (cell_at heap.now.state.cells s.0) ≡ true) }
 {
     match v {
         Value::Dict(s) => Some(*s),

@@ -13,9 +13,9 @@ use variant_values::values::{Key, Serial, Value};
 
 /// The items of an array.
 pub fn items(heap: &Heap, of: Serial) -> &[Value]
-    requires { is_array (cell_at heap.now.cells of.0) ≡ true }
-    ensures value { result.now ≡ items_of (cell_at heap.now.cells of.0) }
-    ensures known { KnowsAll heap.now.cells result.now }
+    requires { is_array (cell_at heap.now.state.cells of.0) ≡ true }
+    ensures value { result.now ≡ items_of (cell_at heap.now.state.cells of.0) }
+    ensures known { KnowsAll heap.now.state.cells result.now }
 {
     heap.is_sound();
     match heap.cell(of) {
@@ -26,9 +26,9 @@ pub fn items(heap: &Heap, of: Serial) -> &[Value]
 
 /// The entries of a dictionary.
 pub fn entries(heap: &Heap, of: Serial) -> &Entries
-    requires { is_dict (cell_at heap.now.cells of.0) ≡ true }
-    ensures value { result.now ≡ entries_of (cell_at heap.now.cells of.0) }
-    ensures known { KnowsEntries heap.now.cells result.now }
+    requires { is_dict (cell_at heap.now.state.cells of.0) ≡ true }
+    ensures value { result.now ≡ entries_of (cell_at heap.now.state.cells of.0) }
+    ensures known { KnowsEntries heap.now.state.cells result.now }
     ensures few { length result.now ≤ 67108864 }
     ensures once { HasKeysOnce result.now }
 {
@@ -39,9 +39,9 @@ pub fn entries(heap: &Heap, of: Serial) -> &Entries
 }
 
 fn entries_of(heap: &Heap, of: Serial) -> &Entries
-    requires { is_dict (cell_at heap.now.cells of.0) ≡ true }
-    ensures value { result.now ≡ entries_of (cell_at heap.now.cells of.0) }
-    ensures known { KnowsEntries heap.now.cells result.now }
+    requires { is_dict (cell_at heap.now.state.cells of.0) ≡ true }
+    ensures value { result.now ≡ entries_of (cell_at heap.now.state.cells of.0) }
+    ensures known { KnowsEntries heap.now.state.cells result.now }
 {
     heap.is_sound();
     match heap.cell(of) {
@@ -52,8 +52,8 @@ fn entries_of(heap: &Heap, of: Serial) -> &Entries
 
 /// The element type of an array, where it has one.
 pub fn element(heap: &Heap, of: Serial) -> Option<ElementTag>
-    requires { is_array (cell_at heap.now.cells of.0) ≡ true }
-    ensures { result ≡ element_of (cell_at heap.now.cells of.0) }
+    requires { is_array (cell_at heap.now.state.cells of.0) ≡ true }
+    ensures { result ≡ element_of (cell_at heap.now.state.cells of.0) }
 {
     heap.is_sound();
     match heap.cell(of) {
@@ -64,9 +64,9 @@ pub fn element(heap: &Heap, of: Serial) -> Option<ElementTag>
 
 /// The value of a key in a dictionary.
 pub fn value_at<'a>(heap: &'a Heap, of: Serial, key: &Key) -> Option<&'a Value>
-    requires { is_dict (cell_at heap.now.cells of.0) ≡ true }
-    ensures value { option_copied result ≡ lookup (same_key key.now) (entries_of (cell_at heap.now.cells of.0)) }
-    ensures known { IfSome result (λ v. knows heap.now.cells v.now ≡ true) }
+    requires { is_dict (cell_at heap.now.state.cells of.0) ≡ true }
+    ensures value { option_copied result ≡ lookup (same_key key.now) (entries_of (cell_at heap.now.state.cells of.0)) }
+    ensures known { IfSome result (λ v. knows heap.now.state.cells v.now ≡ true) }
 {
     match entries(heap, of).get(key) {
         Some(v) => Some(v),
@@ -76,8 +76,8 @@ pub fn value_at<'a>(heap: &'a Heap, of: Serial, key: &Key) -> Option<&'a Value>
 
 /// Whether an object lives.
 pub fn lives(heap: &Heap, of: Serial) -> bool
-    requires { knows_object heap.now.cells of ≡ true }
-    ensures { result ≡ is_living heap.now.cells of.0 }
+    requires { knows_object heap.now.state.cells of ≡ true }
+    ensures { result ≡ is_living heap.now.state.cells of.0 }
 {
     heap.cell(of).is_some()
 }

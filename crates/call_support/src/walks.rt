@@ -19,8 +19,8 @@ pub const MOST_ITEMS: u64 = operators::MOST_ITEMS as u64;
 /// What is left of a room for items after a walk, or `None` where the walk passes a limit.
 #[cycle(counts)]
 fn room_after(heap: &Heap, v: &Value, levels: u32, room: u64) -> Option<u64>
-    requires { knows heap.now.cells v.now ≡ true }
-    ensures { result ≡ left_after room (items_in levels heap.now.cells v.now) }
+    requires { knows heap.now.state.cells v.now ≡ true }
+    ensures { result ≡ left_after room (items_in levels heap.now.state.cells v.now) }
 {
     match v {
         Value::Array(_) if levels == 0 => None,
@@ -33,8 +33,8 @@ fn room_after(heap: &Heap, v: &Value, levels: u32, room: u64) -> Option<u64>
 
 #[cycle(counts)]
 fn room_after_item(heap: &Heap, v: &Value, levels: u32, room: u64) -> Option<u64>
-    requires { knows heap.now.cells v.now ≡ true }
-    ensures { result ≡ left_after room (with_count (Some 1) (items_in levels heap.now.cells v.now)) }
+    requires { knows heap.now.state.cells v.now ≡ true }
+    ensures { result ≡ left_after room (with_count (Some 1) (items_in levels heap.now.state.cells v.now)) }
 {
     if room == 0 {
         return None;
@@ -44,8 +44,8 @@ fn room_after_item(heap: &Heap, v: &Value, levels: u32, room: u64) -> Option<u64
 
 #[cycle(counts)]
 fn room_after_items(heap: &Heap, items: &[Value], levels: u32, room: u64) -> Option<u64>
-    requires { KnowsAll heap.now.cells items.now }
-    ensures { result ≡ left_after room (count_items (items_in levels heap.now.cells) items.now) }
+    requires { KnowsAll heap.now.state.cells items.now }
+    ensures { result ≡ left_after room (count_items (items_in levels heap.now.state.cells) items.now) }
 {
     let mut left = room;
     let mut rest = items;
@@ -58,8 +58,8 @@ fn room_after_items(heap: &Heap, items: &[Value], levels: u32, room: u64) -> Opt
 
 #[cycle(counts)]
 fn room_after_entries(heap: &Heap, entries: &Entries, levels: u32, room: u64) -> Option<u64>
-    requires { KnowsEntries heap.now.cells entries.now }
-    ensures { result ≡ left_after room (count_items (λ e. items_in levels heap.now.cells e.1) entries.now) }
+    requires { KnowsEntries heap.now.state.cells entries.now }
+    ensures { result ≡ left_after room (count_items (λ e. items_in levels heap.now.state.cells e.1) entries.now) }
 {
     let mut left = room;
     for i in 0..entries.len() {
@@ -71,8 +71,8 @@ fn room_after_entries(heap: &Heap, entries: &Entries, levels: u32, room: u64) ->
 
 /// Whether a walk of a value stays within the limits of levels and items.
 pub fn is_within(heap: &Heap, v: &Value) -> bool
-    requires { knows heap.now.cells v.now ≡ true }
-    ensures { result ≡ is_within (items_in most_levels heap.now.cells v.now) }
+    requires { knows heap.now.state.cells v.now ≡ true }
+    ensures { result ≡ is_within (items_in most_levels heap.now.state.cells v.now) }
 {
     room_after(heap, v, MOST_LEVELS, MOST_ITEMS).is_some()
 }

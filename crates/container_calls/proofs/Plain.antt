@@ -1,5 +1,5 @@
 -- Operators on values that stand in no cell give values that stand in none.
-use Rattle.std.proofs.Common.{◌≡◌, ℕ, ℤ, ◌∙◌, ap, subst, refl, Bool, true, false, not, List, Option, Some, None, Result, Ok, Err}
+use Rattle.std.proofs.Common.{◌≡◌, ℕ, ℤ, ◌∙◌, ap, subst, sym, refl, Bool, true, false, not, List, Option, Some, None, Result, Ok, Err}
 use Rattle.std.specs.Prelude.{if◌then◌else◌, IfOk, option_map, nat_le, pos, length, ◌+◌, ◌++◌}
 use Rattle.variant_values.specs.declared.cells.Cell.{Cell}
 use Rattle.variant_values.specs.declared.faults.RunFault.{RunFault}
@@ -13,8 +13,11 @@ use Rattle.variant_values.specs.declared.operators.BinaryOp.{BinaryOp}
 use Rattle.variant_values.specs.declared.operators.BinaryOp.TheVariants.{Add, Sub, Mul, Div, Rem, Shl, Shr, BitAnd, BitXor, BitOr, Eq, Ne, Lt, Gt, Le, Ge, Within, And, Or}
 use Rattle.variant_values.specs.declared.values.Value.{Value}
 use Rattle.variant_values.specs.declared.values.Value.TheVariants.{Null, Bool as Truth, Int, Str, Array, Dict, Object, Callable, Signal, Class, Scene, Weak}
+use Rattle.std.proofs.lemmas.Bool.{false≢true}
 use Rattle.variant_values.specs.Heaps.{knows}
-use Rattle.variant_values.specs.Operators.{Outcome, Answers, amount_of, binary_of, equal, int_binary, longest, number_of, or_bad, other_binary, shifted, text_binary}
+use Rattle.variant_values.specs.Operations.{remainder}
+use Rattle.variant_values.specs.ValueTexts.{Names}
+use Rattle.variant_values.specs.Operators.{Outcome, Answers, amount_of, binary_of, equal, int_binary, is_text, longest, number_of, or_bad, other_binary, shifted, text_binary}
 
 abbrev IsPlain : Outcome → Type 0
 IsPlain (Ok v) = (cells : List (Option Cell)) → knows cells v ≡ true
@@ -80,3 +83,11 @@ answer_known (Err NoMemory) o cells is plain = tt
 
 pub plain_known : (r : Result Value Trouble) (op : BinaryOp) (a b : Value) (cells : List (Option Cell)) → Answers r (binary_of op a b) → IfOk r (λ v. knows cells v ≡ true)
 plain_known r op a b cells is = answer_known r (binary_of op a b) cells is (binary_plain op a b)
+
+-- what is no text is divided
+pub remainder_is : (names : Names) (cells : List (Option Cell)) (v w : Value) → is_text v ≡ false → remainder names cells v w ≡ binary_of Rem v w
+remainder_is names cells (Str text) w h = absurd (false≢true (sym h))
+remainder_is names cells v w h = refl
+
+pub divided : (r : Result Value Trouble) (v w : Value) → is_text v ≡ false → Answers r (binary_of Rem v w) → (names : Names) (cells : List (Option Cell)) → Answers r (remainder names cells v w)
+divided r v w h is names cells = subst (λ (o : Outcome). Answers r o) (sym (remainder_is names cells v w h)) is

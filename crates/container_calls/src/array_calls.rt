@@ -28,10 +28,10 @@ fn with_none(
     method: ArrayMethod,
     of: Serial,
 ) -> Result<Value, Trouble>
-    requires { is_array (cell_at heap.old.cells of.0) ≡ true }
-    ensures given { HasGiven result heap.old heap.new (array_call_of heap.old method of []) }
-    ensures keeps { Keeps heap.old.cells heap.new.cells }
-    ensures known { IfOk result (λ v. knows heap.new.cells v ≡ true) }
+    requires { is_array (cell_at heap.old.state.cells of.0) ≡ true }
+    ensures given { HasGiven result heap.old.state heap.new.state (array_call_of heap.old.state method of []) }
+    ensures keeps { Keeps heap.old.state.cells heap.new.state.cells }
+    ensures known { IfOk result (λ v. knows heap.new.state.cells v ≡ true) }
 {
     match method {
         ArrayMethod::Size => Ok(arrays::size(heap, of)?),
@@ -61,10 +61,10 @@ fn with_none(
 }
 
 fn remove_at(alloc: Global, heap: &mut Heap, of: Serial, index: &Value) -> Result<Value, Trouble>
-    requires { is_array (cell_at heap.old.cells of.0) ≡ true }
-    ensures given { HasGiven result heap.old heap.new (with_given (int_in index.now) (λ i. remove_at_of heap.old of.0 i)) }
-    ensures keeps { Keeps heap.old.cells heap.new.cells }
-    ensures known { IfOk result (λ v. knows heap.new.cells v ≡ true) }
+    requires { is_array (cell_at heap.old.state.cells of.0) ≡ true }
+    ensures given { HasGiven result heap.old.state heap.new.state (with_given (int_in index.now) (λ i. remove_at_of heap.old.state of.0 i)) }
+    ensures keeps { Keeps heap.old.state.cells heap.new.state.cells }
+    ensures known { IfOk result (λ v. knows heap.new.state.cells v ≡ true) }
 {
     match int_in(index) {
         Some(i) => arrays::remove_at(alloc, heap, of, i),
@@ -73,10 +73,10 @@ fn remove_at(alloc: Global, heap: &mut Heap, of: Serial, index: &Value) -> Resul
 }
 
 fn slice_from(alloc: Global, heap: &mut Heap, of: Serial, from: &Value) -> Result<Value, Trouble>
-    requires { is_array (cell_at heap.old.cells of.0) ≡ true }
-    ensures given { HasGiven result heap.old heap.new (with_given (int_in from.now) (λ i. slice_from_of heap.old of.0 i)) }
-    ensures keeps { Keeps heap.old.cells heap.new.cells }
-    ensures known { IfOk result (λ v. knows heap.new.cells v ≡ true) }
+    requires { is_array (cell_at heap.old.state.cells of.0) ≡ true }
+    ensures given { HasGiven result heap.old.state heap.new.state (with_given (int_in from.now) (λ i. slice_from_of heap.old.state of.0 i)) }
+    ensures keeps { Keeps heap.old.state.cells heap.new.state.cells }
+    ensures known { IfOk result (λ v. knows heap.new.state.cells v ≡ true) }
 {
     match int_in(from) {
         Some(i) => arrays::slice_from(alloc, heap, of, i),
@@ -85,10 +85,10 @@ fn slice_from(alloc: Global, heap: &mut Heap, of: Serial, from: &Value) -> Resul
 }
 
 fn resize_to(alloc: Global, heap: &mut Heap, of: Serial, size: &Value) -> Result<Value, Trouble>
-    requires { is_array (cell_at heap.old.cells of.0) ≡ true }
-    ensures given { HasGiven result heap.old heap.new (with_given (int_in size.now) (λ n. resize_of heap.old of.0 n)) }
-    ensures keeps { Keeps heap.old.cells heap.new.cells }
-    ensures known { IfOk result (λ v. knows heap.new.cells v ≡ true) }
+    requires { is_array (cell_at heap.old.state.cells of.0) ≡ true }
+    ensures given { HasGiven result heap.old.state heap.new.state (with_given (int_in size.now) (λ n. resize_of heap.old.state of.0 n)) }
+    ensures keeps { Keeps heap.old.state.cells heap.new.state.cells }
+    ensures known { IfOk result (λ v. knows heap.new.state.cells v ≡ true) }
 {
     match int_in(size) {
         Some(n) => resize(alloc, heap, of, n),
@@ -97,11 +97,11 @@ fn resize_to(alloc: Global, heap: &mut Heap, of: Serial, size: &Value) -> Result
 }
 
 fn append_array(alloc: Global, heap: &mut Heap, of: Serial, other: &Value) -> Result<Value, Trouble>
-    requires array { is_array (cell_at heap.old.cells of.0) ≡ true }
-    requires other { knows heap.old.cells other.now ≡ true }
-    ensures given { HasGiven result heap.old heap.new (with_given (array_in other.now) (λ y. append_array_of heap.old of.0 y.0)) }
-    ensures keeps { Keeps heap.old.cells heap.new.cells }
-    ensures known { IfOk result (λ v. knows heap.new.cells v ≡ true) }
+    requires array { is_array (cell_at heap.old.state.cells of.0) ≡ true }
+    requires other { knows heap.old.state.cells other.now ≡ true }
+    ensures given { HasGiven result heap.old.state heap.new.state (with_given (array_in other.now) (λ y. append_array_of heap.old.state of.0 y.0)) }
+    ensures keeps { Keeps heap.old.state.cells heap.new.state.cells }
+    ensures known { IfOk result (λ v. knows heap.new.state.cells v ≡ true) }
 {
     match array_in(heap, other) {
         Some(other) => arrays::append_array(alloc, heap, of, other),
@@ -110,10 +110,10 @@ fn append_array(alloc: Global, heap: &mut Heap, of: Serial, other: &Value) -> Re
 }
 
 fn duplicate(alloc: Global, heap: &mut Heap, of: Serial, deep: &Value) -> Result<Value, Trouble>
-    requires { is_array (cell_at heap.old.cells of.0) ≡ true }
-    ensures given { HasGiven result heap.old heap.new (with_given (truth_in deep.now) (λ deep. array_duplicate_of heap.old of deep)) }
-    ensures keeps { Keeps heap.old.cells heap.new.cells }
-    ensures known { IfOk result (λ v. knows heap.new.cells v ≡ true) }
+    requires { is_array (cell_at heap.old.state.cells of.0) ≡ true }
+    ensures given { HasGiven result heap.old.state heap.new.state (with_given (truth_in deep.now) (λ deep. array_duplicate_of heap.old.state of deep)) }
+    ensures keeps { Keeps heap.old.state.cells heap.new.state.cells }
+    ensures known { IfOk result (λ v. knows heap.new.state.cells v ≡ true) }
 {
     match truth_in(deep) {
         Some(true) => deep_copy(alloc, heap, &Value::Array(of)),
@@ -129,11 +129,11 @@ fn with_one(
     of: Serial,
     v: &Value,
 ) -> Result<Value, Trouble>
-    requires array { is_array (cell_at heap.old.cells of.0) ≡ true }
-    requires value { knows heap.old.cells v.now ≡ true }
-    ensures given { HasGiven result heap.old heap.new (array_call_of heap.old method of (v.now ∷ [])) }
-    ensures keeps { Keeps heap.old.cells heap.new.cells }
-    ensures known { IfOk result (λ v. knows heap.new.cells v ≡ true) }
+    requires array { is_array (cell_at heap.old.state.cells of.0) ≡ true }
+    requires value { knows heap.old.state.cells v.now ≡ true }
+    ensures given { HasGiven result heap.old.state heap.new.state (array_call_of heap.old.state method of (v.now ∷ [])) }
+    ensures keeps { Keeps heap.old.state.cells heap.new.state.cells }
+    ensures known { IfOk result (λ v. knows heap.new.state.cells v ≡ true) }
 {
     match method {
         ArrayMethod::Append | ArrayMethod::PushBack => arrays::append(alloc, heap, of, v),
@@ -168,11 +168,11 @@ fn insert(
     index: &Value,
     v: &Value,
 ) -> Result<Value, Trouble>
-    requires array { is_array (cell_at heap.old.cells of.0) ≡ true }
-    requires value { knows heap.old.cells v.now ≡ true }
-    ensures given { HasGiven result heap.old heap.new (array_call_of heap.old ArrayMethod.Insert of (index.now ∷ v.now ∷ [])) }
-    ensures keeps { Keeps heap.old.cells heap.new.cells }
-    ensures known { IfOk result (λ v. knows heap.new.cells v ≡ true) }
+    requires array { is_array (cell_at heap.old.state.cells of.0) ≡ true }
+    requires value { knows heap.old.state.cells v.now ≡ true }
+    ensures given { HasGiven result heap.old.state heap.new.state (array_call_of heap.old.state ArrayMethod.Insert of (index.now ∷ v.now ∷ [])) }
+    ensures keeps { Keeps heap.old.state.cells heap.new.state.cells }
+    ensures known { IfOk result (λ v. knows heap.new.state.cells v ≡ true) }
 {
     match int_in(index) {
         Some(i) => arrays::insert(alloc, heap, of, i, v),
@@ -187,10 +187,10 @@ fn slice(
     from: &Value,
     to: &Value,
 ) -> Result<Value, Trouble>
-    requires { is_array (cell_at heap.old.cells of.0) ≡ true }
-    ensures given { HasGiven result heap.old heap.new (array_call_of heap.old ArrayMethod.Slice of (from.now ∷ to.now ∷ [])) }
-    ensures keeps { Keeps heap.old.cells heap.new.cells }
-    ensures known { IfOk result (λ v. knows heap.new.cells v ≡ true) }
+    requires { is_array (cell_at heap.old.state.cells of.0) ≡ true }
+    ensures given { HasGiven result heap.old.state heap.new.state (array_call_of heap.old.state ArrayMethod.Slice of (from.now ∷ to.now ∷ [])) }
+    ensures keeps { Keeps heap.old.state.cells heap.new.state.cells }
+    ensures known { IfOk result (λ v. knows heap.new.state.cells v ≡ true) }
 {
     match (int_in(from), int_in(to)) {
         (Some(a), Some(b)) => arrays::slice(alloc, heap, of, a, b),
@@ -206,11 +206,11 @@ fn with_two(
     v: &Value,
     w: &Value,
 ) -> Result<Value, Trouble>
-    requires array { is_array (cell_at heap.old.cells of.0) ≡ true }
-    requires value { knows heap.old.cells w.now ≡ true }
-    ensures given { HasGiven result heap.old heap.new (array_call_of heap.old method of (v.now ∷ w.now ∷ [])) }
-    ensures keeps { Keeps heap.old.cells heap.new.cells }
-    ensures known { IfOk result (λ v. knows heap.new.cells v ≡ true) }
+    requires array { is_array (cell_at heap.old.state.cells of.0) ≡ true }
+    requires value { knows heap.old.state.cells w.now ≡ true }
+    ensures given { HasGiven result heap.old.state heap.new.state (array_call_of heap.old.state method of (v.now ∷ w.now ∷ [])) }
+    ensures keeps { Keeps heap.old.state.cells heap.new.state.cells }
+    ensures known { IfOk result (λ v. knows heap.new.state.cells v ≡ true) }
 {
     match method {
         ArrayMethod::Insert => insert(alloc, heap, of, v, w),
@@ -251,11 +251,11 @@ pub fn array_call(
     of: Serial,
     args: &[Value],
 ) -> Result<Value, Trouble>
-    requires array { is_array (cell_at heap.old.cells of.0) ≡ true }
-    requires args { KnowsAll heap.old.cells args.now }
-    ensures given { HasGiven result heap.old heap.new (array_call_of heap.old method of args.now) }
-    ensures keeps { Keeps heap.old.cells heap.new.cells }
-    ensures known { IfOk result (λ v. knows heap.new.cells v ≡ true) }
+    requires array { is_array (cell_at heap.old.state.cells of.0) ≡ true }
+    requires args { KnowsAll heap.old.state.cells args.now }
+    ensures given { HasGiven result heap.old.state heap.new.state (array_call_of heap.old.state method of args.now) }
+    ensures keeps { Keeps heap.old.state.cells heap.new.state.cells }
+    ensures known { IfOk result (λ v. knows heap.new.state.cells v ≡ true) }
 {
     match args {
         [] => with_none(alloc, heap, method, of),

@@ -9,7 +9,7 @@ ghost use Rattle.variant_values.specs.ArrayMethods.{append_array_of, append_of, 
 use crate::comparisons::{count_equal, first_equal};
 use crate::elements::{all_taken, is_taken};
 use crate::indexing::{one, spot};
-use call_support::changes::{new_array, splice};
+use call_support::changes::{new_array, remove_items, splice};
 use call_support::views::{element, items};
 use ref_objects::heap::Heap;
 use std::alloc::{AllocError, Global};
@@ -19,27 +19,27 @@ use variant_values::values::{Serial, Value};
 
 /// How many items an array has.
 pub fn size(heap: &Heap, of: Serial) -> Result<Value, RunFault>
-    requires { is_array (cell_at heap.now.cells of.0) ≡ true }
-    ensures value { result ≡ size_of (items_at heap.now of.0) }
-    ensures known { IfOk result (λ v. knows heap.now.cells v ≡ true) }
+    requires { is_array (cell_at heap.now.state.cells of.0) ≡ true }
+    ensures value { result ≡ size_of (items_at heap.now.state of.0) }
+    ensures known { IfOk result (λ v. knows heap.now.state.cells v ≡ true) }
 {
     Ok(Value::Int(items(heap, of).len() as i64))
 }
 
 /// Whether it has none.
 pub fn is_empty(heap: &Heap, of: Serial) -> Result<Value, RunFault>
-    requires { is_array (cell_at heap.now.cells of.0) ≡ true }
-    ensures value { result ≡ emptiness_of (items_at heap.now of.0) }
-    ensures known { IfOk result (λ v. knows heap.now.cells v ≡ true) }
+    requires { is_array (cell_at heap.now.state.cells of.0) ≡ true }
+    ensures value { result ≡ emptiness_of (items_at heap.now.state of.0) }
+    ensures known { IfOk result (λ v. knows heap.now.state.cells v ≡ true) }
 {
     Ok(Value::Bool(items(heap, of).len() == 0))
 }
 
 /// A copy of an item, or null where there is none.
 fn item_or_null(heap: &Heap, items: &[Value], at: usize) -> Result<Value, Trouble>
-    requires { KnowsAll heap.now.cells items.now }
+    requires { KnowsAll heap.now.state.cells items.now }
     ensures value { Answers result (Ok (item_or_null (slice_get items.now at))) }
-    ensures known { IfOk result (λ v. knows heap.now.cells v ≡ true) }
+    ensures known { IfOk result (λ v. knows heap.now.state.cells v ≡ true) }
 {
     match items.get(at) {
         Some(v) => Ok(v.clone()?),
@@ -49,18 +49,18 @@ fn item_or_null(heap: &Heap, items: &[Value], at: usize) -> Result<Value, Troubl
 
 /// The first item, or null.
 pub fn front(heap: &Heap, of: Serial) -> Result<Value, Trouble>
-    requires { is_array (cell_at heap.now.cells of.0) ≡ true }
-    ensures value { Answers result (front_of (items_at heap.now of.0)) }
-    ensures known { IfOk result (λ v. knows heap.now.cells v ≡ true) }
+    requires { is_array (cell_at heap.now.state.cells of.0) ≡ true }
+    ensures value { Answers result (front_of (items_at heap.now.state of.0)) }
+    ensures known { IfOk result (λ v. knows heap.now.state.cells v ≡ true) }
 {
     item_or_null(heap, items(heap, of), 0)
 }
 
 /// The last item, or null.
 pub fn back(heap: &Heap, of: Serial) -> Result<Value, Trouble>
-    requires { is_array (cell_at heap.now.cells of.0) ≡ true }
-    ensures value { Answers result (back_of (items_at heap.now of.0)) }
-    ensures known { IfOk result (λ v. knows heap.now.cells v ≡ true) }
+    requires { is_array (cell_at heap.now.state.cells of.0) ≡ true }
+    ensures value { Answers result (back_of (items_at heap.now.state of.0)) }
+    ensures known { IfOk result (λ v. knows heap.now.state.cells v ≡ true) }
 {
     let items = items(heap, of);
     item_or_null(heap, items, items.len().saturating_sub(1))
@@ -75,15 +75,35 @@ pub fn change(
     put: Vec<Value>,
     gives: Value,
 ) -> Result<Value, Trouble>
-    requires array { is_array (cell_at heap.old.cells of.0) ≡ true }
-    requires items { at + out ≤ length (items_at heap.old of.0) }
-    requires gives { knows heap.old.cells gives ≡ true }
-    requires put { KnowsAll heap.old.cells put.items }
-    ensures given { HasGiven result heap.old heap.new (weighed (with_splice heap.old of.0 at out put.items) gives) }
-    ensures keeps { Keeps heap.old.cells heap.new.cells }
-    ensures known { IfOk result (λ v. knows heap.new.cells v ≡ true) }
+    requires array { is_array (cell_at heap.old.state.cells of.0) ≡ true }
+    requires items { at + out ≤ length (items_at heap.old.state of.0) }
+    requires gives { knows heap.old.state.cells gives ≡ true }
+    requires put { KnowsAll heap.old.state.cells put.items }
+    ensures given { HasGiven result heap.old.state heap.new.state (weighed (with_splice heap.old.state of.0 at out put.items) gives) }
+    ensures keeps { Keeps heap.old.state.cells heap.new.state.cells }
+    ensures known { IfOk result (λ v. knows heap.new.state.cells v ≡ true) }
 {
     splice(heap, of, at, out, put)?;
+    Ok(gives)
+}
+
+/// Items taken out, and the value that this gives.
+fn take_out(
+    alloc: Global,
+    heap: &mut Heap,
+    of: Serial,
+    at: usize,
+    out: usize,
+    gives: Value,
+) -> Result<Value, Trouble>
+    requires array { is_array (cell_at heap.old.state.cells of.0) ≡ true }
+    requires items { at + out ≤ length (items_at heap.old.state of.0) }
+    requires gives { knows heap.old.state.cells gives ≡ true }
+    ensures given { HasGiven result heap.old.state heap.new.state (Ok (gives, with_splice heap.old.state of.0 at out [])) }
+    ensures keeps { Keeps heap.old.state.cells heap.new.state.cells }
+    ensures known { IfOk result (λ v. knows heap.new.state.cells v ≡ true) }
+{
+    remove_items(alloc, heap, of, at, out)?;
     Ok(gives)
 }
 
@@ -96,13 +116,13 @@ fn put(
     put: Vec<Value>,
     gives: Value,
 ) -> Result<Value, Trouble>
-    requires array { is_array (cell_at heap.old.cells of.0) ≡ true }
-    requires items { at + out ≤ length (items_at heap.old of.0) }
-    requires gives { knows heap.old.cells gives ≡ true }
-    requires put { KnowsAll heap.old.cells put.items }
-    ensures given { HasGiven result heap.old heap.new (put_of heap.old of.0 at out put.items gives) }
-    ensures keeps { Keeps heap.old.cells heap.new.cells }
-    ensures known { IfOk result (λ v. knows heap.new.cells v ≡ true) }
+    requires array { is_array (cell_at heap.old.state.cells of.0) ≡ true }
+    requires items { at + out ≤ length (items_at heap.old.state of.0) }
+    requires gives { knows heap.old.state.cells gives ≡ true }
+    requires put { KnowsAll heap.old.state.cells put.items }
+    ensures given { HasGiven result heap.old.state heap.new.state (put_of heap.old.state of.0 at out put.items gives) }
+    ensures keeps { Keeps heap.old.state.cells heap.new.state.cells }
+    ensures known { IfOk result (λ v. knows heap.new.state.cells v ≡ true) }
 {
     if !all_taken(heap, element(heap, of), put.as_slice()) {
         return Err(Trouble::Fault(RunFault::ElementType));
@@ -115,11 +135,11 @@ fn put(
 
 /// Puts a value last: `append` and `push_back`.
 pub fn append(alloc: Global, heap: &mut Heap, of: Serial, v: &Value) -> Result<Value, Trouble>
-    requires array { is_array (cell_at heap.old.cells of.0) ≡ true }
-    requires value { knows heap.old.cells v.now ≡ true }
-    ensures given { HasGiven result heap.old heap.new (append_of heap.old of.0 v.now) }
-    ensures keeps { Keeps heap.old.cells heap.new.cells }
-    ensures known { IfOk result (λ v. knows heap.new.cells v ≡ true) }
+    requires array { is_array (cell_at heap.old.state.cells of.0) ≡ true }
+    requires value { knows heap.old.state.cells v.now ≡ true }
+    ensures given { HasGiven result heap.old.state heap.new.state (append_of heap.old.state of.0 v.now) }
+    ensures keeps { Keeps heap.old.state.cells heap.new.state.cells }
+    ensures known { IfOk result (λ v. knows heap.new.state.cells v ≡ true) }
 {
     let len = items(heap, of).len();
     put(heap, of, len, 0, one(alloc, v.clone()?)?, Value::Null)
@@ -127,11 +147,11 @@ pub fn append(alloc: Global, heap: &mut Heap, of: Serial, v: &Value) -> Result<V
 
 /// Puts a value first.
 pub fn push_front(alloc: Global, heap: &mut Heap, of: Serial, v: &Value) -> Result<Value, Trouble>
-    requires array { is_array (cell_at heap.old.cells of.0) ≡ true }
-    requires value { knows heap.old.cells v.now ≡ true }
-    ensures given { HasGiven result heap.old heap.new (push_front_of heap.old of.0 v.now) }
-    ensures keeps { Keeps heap.old.cells heap.new.cells }
-    ensures known { IfOk result (λ v. knows heap.new.cells v ≡ true) }
+    requires array { is_array (cell_at heap.old.state.cells of.0) ≡ true }
+    requires value { knows heap.old.state.cells v.now ≡ true }
+    ensures given { HasGiven result heap.old.state heap.new.state (push_front_of heap.old.state of.0 v.now) }
+    ensures keeps { Keeps heap.old.state.cells heap.new.state.cells }
+    ensures known { IfOk result (λ v. knows heap.new.state.cells v ≡ true) }
 {
     put(heap, of, 0, 0, one(alloc, v.clone()?)?, Value::Null)
 }
@@ -143,11 +163,11 @@ pub fn append_array(
     of: Serial,
     other: Serial,
 ) -> Result<Value, Trouble>
-    requires array { is_array (cell_at heap.old.cells of.0) ≡ true }
-    requires other { is_array (cell_at heap.old.cells other.0) ≡ true }
-    ensures given { HasGiven result heap.old heap.new (append_array_of heap.old of.0 other.0) }
-    ensures keeps { Keeps heap.old.cells heap.new.cells }
-    ensures known { IfOk result (λ v. knows heap.new.cells v ≡ true) }
+    requires array { is_array (cell_at heap.old.state.cells of.0) ≡ true }
+    requires other { is_array (cell_at heap.old.state.cells other.0) ≡ true }
+    ensures given { HasGiven result heap.old.state heap.new.state (append_array_of heap.old.state of.0 other.0) }
+    ensures keeps { Keeps heap.old.state.cells heap.new.state.cells }
+    ensures known { IfOk result (λ v. knows heap.new.state.cells v ≡ true) }
 {
     let len = items(heap, of).len();
     let more = items(heap, other).to_vec(alloc)?;
@@ -174,11 +194,11 @@ pub fn insert(
     index: i64,
     v: &Value,
 ) -> Result<Value, Trouble>
-    requires array { is_array (cell_at heap.old.cells of.0) ≡ true }
-    requires value { knows heap.old.cells v.now ≡ true }
-    ensures given { HasGiven result heap.old heap.new (insert_of heap.old of.0 index v.now) }
-    ensures keeps { Keeps heap.old.cells heap.new.cells }
-    ensures known { IfOk result (λ v. knows heap.new.cells v ≡ true) }
+    requires array { is_array (cell_at heap.old.state.cells of.0) ≡ true }
+    requires value { knows heap.old.state.cells v.now ≡ true }
+    ensures given { HasGiven result heap.old.state heap.new.state (insert_of heap.old.state of.0 index v.now) }
+    ensures keeps { Keeps heap.old.state.cells heap.new.state.cells }
+    ensures known { IfOk result (λ v. knows heap.new.state.cells v ≡ true) }
 {
     let Some(at) = spot_between(index, items(heap, of).len()) else {
         return Err(Trouble::Fault(RunFault::BadIndex));
@@ -188,38 +208,38 @@ pub fn insert(
 
 /// Takes out the item at an index.
 pub fn remove_at(alloc: Global, heap: &mut Heap, of: Serial, index: i64) -> Result<Value, Trouble>
-    requires { is_array (cell_at heap.old.cells of.0) ≡ true }
-    ensures given { HasGiven result heap.old heap.new (remove_at_of heap.old of.0 index) }
-    ensures keeps { Keeps heap.old.cells heap.new.cells }
-    ensures known { IfOk result (λ v. knows heap.new.cells v ≡ true) }
+    requires { is_array (cell_at heap.old.state.cells of.0) ≡ true }
+    ensures given { HasGiven result heap.old.state heap.new.state (remove_at_of heap.old.state of.0 index) }
+    ensures keeps { Keeps heap.old.state.cells heap.new.state.cells }
+    ensures known { IfOk result (λ v. knows heap.new.state.cells v ≡ true) }
 {
     let Some(at) = spot(index, items(heap, of).len()) else {
         return Err(Trouble::Fault(RunFault::BadIndex));
     };
-    change(heap, of, at, 1, Vec::new(alloc), Value::Null)
+    take_out(alloc, heap, of, at, 1, Value::Null)
 }
 
 /// Takes out the first item that a value equals.
 pub fn erase(alloc: Global, heap: &mut Heap, of: Serial, v: &Value) -> Result<Value, Trouble>
-    requires array { is_array (cell_at heap.old.cells of.0) ≡ true }
-    requires value { knows heap.old.cells v.now ≡ true }
-    ensures given { HasGiven result heap.old heap.new (erase_of heap.old of.0 v.now) }
-    ensures keeps { Keeps heap.old.cells heap.new.cells }
-    ensures known { IfOk result (λ v. knows heap.new.cells v ≡ true) }
+    requires array { is_array (cell_at heap.old.state.cells of.0) ≡ true }
+    requires value { knows heap.old.state.cells v.now ≡ true }
+    ensures given { HasGiven result heap.old.state heap.new.state (erase_of heap.old.state of.0 v.now) }
+    ensures keeps { Keeps heap.old.state.cells heap.new.state.cells }
+    ensures known { IfOk result (λ v. knows heap.new.state.cells v ≡ true) }
 {
     let found = find_in(heap, of, v)?;
     let Some(at) = found else {
         return Ok(Value::Null);
     };
-    change(heap, of, at, 1, Vec::new(alloc), Value::Null)
+    take_out(alloc, heap, of, at, 1, Value::Null)
 }
 
 /// The place of the first item that a value equals, which is one.
 fn find_in(heap: &Heap, of: Serial, v: &Value) -> Result<Option<usize>, RunFault>
-    requires array { is_array (cell_at heap.now.cells of.0) ≡ true }
-    requires value { knows heap.now.cells v.now ≡ true }
-    ensures found { result ≡ first_equal (λ w. same_value heap.now.cells v.now w) 0 (items_at heap.now of.0) }
-    ensures within { IfOk result (λ found. IfSome found (λ at. at < length (items_at heap.now of.0))) }
+    requires array { is_array (cell_at heap.now.state.cells of.0) ≡ true }
+    requires value { knows heap.now.state.cells v.now ≡ true }
+    ensures found { result ≡ first_equal (λ w. same_value heap.now.state.cells v.now w) 0 (items_at heap.now.state of.0) }
+    ensures within { IfOk result (λ found. IfSome found (λ at. at < length (items_at heap.now.state of.0))) }
     ensures small { IfOk result (λ found. IfSome found (λ at. at < 2 ^ 63)) }
 {
     first_equal(heap, v, items(heap, of))
@@ -227,13 +247,13 @@ fn find_in(heap: &Heap, of: Serial, v: &Value) -> Result<Option<usize>, RunFault
 
 /// Takes an item out, or gives null where there is none.
 fn pop(alloc: Global, heap: &mut Heap, of: Serial, at: usize) -> Result<Value, Trouble>
-    requires { is_array (cell_at heap.old.cells of.0) ≡ true }
-    ensures given { HasGiven result heap.old heap.new (popped heap.old of.0 at (slice_get (items_at heap.old of.0) at)) }
-    ensures keeps { Keeps heap.old.cells heap.new.cells }
-    ensures known { IfOk result (λ v. knows heap.new.cells v ≡ true) }
+    requires { is_array (cell_at heap.old.state.cells of.0) ≡ true }
+    ensures given { HasGiven result heap.old.state heap.new.state (popped heap.old.state of.0 at (slice_get (items_at heap.old.state of.0) at)) }
+    ensures keeps { Keeps heap.old.state.cells heap.new.state.cells }
+    ensures known { IfOk result (λ v. knows heap.new.state.cells v ≡ true) }
 {
     match copy_at(items(heap, of), at)? {
-        Some(v) => change(heap, of, at, 1, Vec::new(alloc), v),
+        Some(v) => take_out(alloc, heap, of, at, 1, v),
         None => Ok(Value::Null),
     }
 }
@@ -249,10 +269,10 @@ fn copy_at(items: &[Value], at: usize) -> Result<Option<Value>, AllocError>
 
 /// Takes out the last item.
 pub fn pop_back(alloc: Global, heap: &mut Heap, of: Serial) -> Result<Value, Trouble>
-    requires { is_array (cell_at heap.old.cells of.0) ≡ true }
-    ensures given { HasGiven result heap.old heap.new (pop_back_of heap.old of.0) }
-    ensures keeps { Keeps heap.old.cells heap.new.cells }
-    ensures known { IfOk result (λ v. knows heap.new.cells v ≡ true) }
+    requires { is_array (cell_at heap.old.state.cells of.0) ≡ true }
+    ensures given { HasGiven result heap.old.state heap.new.state (pop_back_of heap.old.state of.0) }
+    ensures keeps { Keeps heap.old.state.cells heap.new.state.cells }
+    ensures known { IfOk result (λ v. knows heap.new.state.cells v ≡ true) }
 {
     let at = items(heap, of).len().saturating_sub(1);
     pop(alloc, heap, of, at)
@@ -260,23 +280,23 @@ pub fn pop_back(alloc: Global, heap: &mut Heap, of: Serial) -> Result<Value, Tro
 
 /// Takes out the first item.
 pub fn pop_front(alloc: Global, heap: &mut Heap, of: Serial) -> Result<Value, Trouble>
-    requires { is_array (cell_at heap.old.cells of.0) ≡ true }
-    ensures given { HasGiven result heap.old heap.new (pop_front_of heap.old of.0) }
-    ensures keeps { Keeps heap.old.cells heap.new.cells }
-    ensures known { IfOk result (λ v. knows heap.new.cells v ≡ true) }
+    requires { is_array (cell_at heap.old.state.cells of.0) ≡ true }
+    ensures given { HasGiven result heap.old.state heap.new.state (pop_front_of heap.old.state of.0) }
+    ensures keeps { Keeps heap.old.state.cells heap.new.state.cells }
+    ensures known { IfOk result (λ v. knows heap.new.state.cells v ≡ true) }
 {
     pop(alloc, heap, of, 0)
 }
 
 /// Takes out all items.
 pub fn clear(alloc: Global, heap: &mut Heap, of: Serial) -> Result<Value, Trouble>
-    requires { is_array (cell_at heap.old.cells of.0) ≡ true }
-    ensures given { HasGiven result heap.old heap.new (clear_of heap.old of.0) }
-    ensures keeps { Keeps heap.old.cells heap.new.cells }
-    ensures known { IfOk result (λ v. knows heap.new.cells v ≡ true) }
+    requires { is_array (cell_at heap.old.state.cells of.0) ≡ true }
+    ensures given { HasGiven result heap.old.state heap.new.state (clear_of heap.old.state of.0) }
+    ensures keeps { Keeps heap.old.state.cells heap.new.state.cells }
+    ensures known { IfOk result (λ v. knows heap.new.state.cells v ≡ true) }
 {
     let len = items(heap, of).len();
-    change(heap, of, 0, len, Vec::new(alloc), Value::Null)
+    take_out(alloc, heap, of, 0, len, Value::Null)
 }
 
 fn reversed(alloc: Global, items: &[Value]) -> Result<Vec<Value>, AllocError>
@@ -289,10 +309,10 @@ fn reversed(alloc: Global, items: &[Value]) -> Result<Vec<Value>, AllocError>
 
 /// Turns the order of the items.
 pub fn reverse(alloc: Global, heap: &mut Heap, of: Serial) -> Result<Value, Trouble>
-    requires { is_array (cell_at heap.old.cells of.0) ≡ true }
-    ensures given { HasGiven result heap.old heap.new (reverse_of heap.old of.0) }
-    ensures keeps { Keeps heap.old.cells heap.new.cells }
-    ensures known { IfOk result (λ v. knows heap.new.cells v ≡ true) }
+    requires { is_array (cell_at heap.old.state.cells of.0) ≡ true }
+    ensures given { HasGiven result heap.old.state heap.new.state (reverse_of heap.old.state of.0) }
+    ensures keeps { Keeps heap.old.state.cells heap.new.state.cells }
+    ensures known { IfOk result (λ v. knows heap.new.state.cells v ≡ true) }
 {
     let list = reversed(alloc, items(heap, of))?;
     let len = list.len();
@@ -311,11 +331,11 @@ fn repeated(alloc: Global, v: &Value, count: usize) -> Result<Vec<Value>, AllocE
 
 /// Makes every item one value.
 pub fn fill(alloc: Global, heap: &mut Heap, of: Serial, v: &Value) -> Result<Value, Trouble>
-    requires array { is_array (cell_at heap.old.cells of.0) ≡ true }
-    requires value { knows heap.old.cells v.now ≡ true }
-    ensures given { HasGiven result heap.old heap.new (fill_of heap.old of.0 v.now) }
-    ensures keeps { Keeps heap.old.cells heap.new.cells }
-    ensures known { IfOk result (λ v. knows heap.new.cells v ≡ true) }
+    requires array { is_array (cell_at heap.old.state.cells of.0) ≡ true }
+    requires value { knows heap.old.state.cells v.now ≡ true }
+    ensures given { HasGiven result heap.old.state heap.new.state (fill_of heap.old.state of.0 v.now) }
+    ensures keeps { Keeps heap.old.state.cells heap.new.state.cells }
+    ensures known { IfOk result (λ v. knows heap.new.state.cells v ≡ true) }
 {
     if !is_taken(heap, element(heap, of), v) {
         return Err(Trouble::Fault(RunFault::ElementType));
@@ -362,10 +382,10 @@ pub fn slice(
     from: i64,
     to: i64,
 ) -> Result<Value, Trouble>
-    requires { is_array (cell_at heap.old.cells of.0) ≡ true }
-    ensures given { HasGiven result heap.old heap.new (slice_of heap.old of.0 from to) }
-    ensures keeps { Keeps heap.old.cells heap.new.cells }
-    ensures known { IfOk result (λ v. knows heap.new.cells v ≡ true) }
+    requires { is_array (cell_at heap.old.state.cells of.0) ≡ true }
+    ensures given { HasGiven result heap.old.state heap.new.state (slice_of heap.old.state of.0 from to) }
+    ensures keeps { Keeps heap.old.state.cells heap.new.state.cells }
+    ensures known { IfOk result (λ v. knows heap.new.state.cells v ≡ true) }
 {
     let all = items(heap, of);
     let part = between(alloc, all, cut(from, all.len()), cut(to, all.len()))?;
@@ -375,10 +395,10 @@ pub fn slice(
 
 /// A new array of the items from a place on.
 pub fn slice_from(alloc: Global, heap: &mut Heap, of: Serial, from: i64) -> Result<Value, Trouble>
-    requires { is_array (cell_at heap.old.cells of.0) ≡ true }
-    ensures given { HasGiven result heap.old heap.new (slice_from_of heap.old of.0 from) }
-    ensures keeps { Keeps heap.old.cells heap.new.cells }
-    ensures known { IfOk result (λ v. knows heap.new.cells v ≡ true) }
+    requires { is_array (cell_at heap.old.state.cells of.0) ≡ true }
+    ensures given { HasGiven result heap.old.state heap.new.state (slice_from_of heap.old.state of.0 from) }
+    ensures keeps { Keeps heap.old.state.cells heap.new.state.cells }
+    ensures known { IfOk result (λ v. knows heap.new.state.cells v ≡ true) }
 {
     let all = items(heap, of);
     let part = between(alloc, all, cut(from, all.len()), all.len())?;
@@ -388,10 +408,10 @@ pub fn slice_from(alloc: Global, heap: &mut Heap, of: Serial, from: i64) -> Resu
 
 /// A new array of the same items. Containers inside stay shared.
 pub fn duplicate(alloc: Global, heap: &mut Heap, of: Serial) -> Result<Value, Trouble>
-    requires { is_array (cell_at heap.old.cells of.0) ≡ true }
-    ensures given { HasGiven result heap.old heap.new (shallow_of heap.old of.0) }
-    ensures keeps { Keeps heap.old.cells heap.new.cells }
-    ensures known { IfOk result (λ v. knows heap.new.cells v ≡ true) }
+    requires { is_array (cell_at heap.old.state.cells of.0) ≡ true }
+    ensures given { HasGiven result heap.old.state heap.new.state (shallow_of heap.old.state of.0) }
+    ensures keeps { Keeps heap.old.state.cells heap.new.state.cells }
+    ensures known { IfOk result (λ v. knows heap.new.state.cells v ≡ true) }
 {
     let all = items(heap, of).to_vec(alloc)?;
     let element = element(heap, of);
@@ -400,10 +420,10 @@ pub fn duplicate(alloc: Global, heap: &mut Heap, of: Serial) -> Result<Value, Tr
 
 /// Whether an item equals a value.
 pub fn has(heap: &Heap, of: Serial, v: &Value) -> Result<Value, RunFault>
-    requires array { is_array (cell_at heap.now.cells of.0) ≡ true }
-    requires value { knows heap.now.cells v.now ≡ true }
-    ensures value { result ≡ has_of heap.now of.0 v.now }
-    ensures known { IfOk result (λ v. knows heap.now.cells v ≡ true) }
+    requires array { is_array (cell_at heap.now.state.cells of.0) ≡ true }
+    requires value { knows heap.now.state.cells v.now ≡ true }
+    ensures value { result ≡ has_of heap.now.state of.0 v.now }
+    ensures known { IfOk result (λ v. knows heap.now.state.cells v ≡ true) }
 {
     match find_in(heap, of, v) {
         Ok(found) => Ok(Value::Bool(found.is_some())),
@@ -413,10 +433,10 @@ pub fn has(heap: &Heap, of: Serial, v: &Value) -> Result<Value, RunFault>
 
 /// The first place of an equal item, or -1.
 pub fn find(heap: &Heap, of: Serial, v: &Value) -> Result<Value, RunFault>
-    requires array { is_array (cell_at heap.now.cells of.0) ≡ true }
-    requires value { knows heap.now.cells v.now ≡ true }
-    ensures value { result ≡ find_of heap.now of.0 v.now }
-    ensures known { IfOk result (λ v. knows heap.now.cells v ≡ true) }
+    requires array { is_array (cell_at heap.now.state.cells of.0) ≡ true }
+    requires value { knows heap.now.state.cells v.now ≡ true }
+    ensures value { result ≡ find_of heap.now.state of.0 v.now }
+    ensures known { IfOk result (λ v. knows heap.now.state.cells v ≡ true) }
 {
     match find_in(heap, of, v) {
         Ok(found) => Ok(Value::Int(place_number(found))),
@@ -436,10 +456,10 @@ fn place_number(found: Option<usize>) -> i64
 
 /// How many items equal a value.
 pub fn count(heap: &Heap, of: Serial, v: &Value) -> Result<Value, RunFault>
-    requires array { is_array (cell_at heap.now.cells of.0) ≡ true }
-    requires value { knows heap.now.cells v.now ≡ true }
-    ensures value { result ≡ count_of heap.now of.0 v.now }
-    ensures known { IfOk result (λ v. knows heap.now.cells v ≡ true) }
+    requires array { is_array (cell_at heap.now.state.cells of.0) ≡ true }
+    requires value { knows heap.now.state.cells v.now ≡ true }
+    ensures value { result ≡ count_of heap.now.state of.0 v.now }
+    ensures known { IfOk result (λ v. knows heap.now.state.cells v ≡ true) }
 {
     match count_in(heap, of, v) {
         Ok(count) => Ok(Value::Int(count as i64)),
@@ -448,9 +468,9 @@ pub fn count(heap: &Heap, of: Serial, v: &Value) -> Result<Value, RunFault>
 }
 
 fn count_in(heap: &Heap, of: Serial, v: &Value) -> Result<usize, RunFault>
-    requires array { is_array (cell_at heap.now.cells of.0) ≡ true }
-    requires value { knows heap.now.cells v.now ≡ true }
-    ensures count { result ≡ count_equal (λ w. same_value heap.now.cells v.now w) 0 (items_at heap.now of.0) }
+    requires array { is_array (cell_at heap.now.state.cells of.0) ≡ true }
+    requires value { knows heap.now.state.cells v.now ≡ true }
+    ensures count { result ≡ count_equal (λ w. same_value heap.now.state.cells v.now w) 0 (items_at heap.now.state of.0) }
     ensures few { IfOk result (λ count. count < 2 ^ 63) }
 {
     count_equal(heap, v, items(heap, of))

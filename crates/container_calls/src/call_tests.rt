@@ -30,9 +30,9 @@ fn array_answer(
     s: Serial,
     args: &[Value],
 ) -> Result<String, Fail>
-    requires array { knows heap.old.cells (Value.Array s) ≡ true }
-    requires args { KnowsAll heap.old.cells args.now }
-    ensures { Keeps heap.old.cells heap.new.cells }
+    requires array { knows heap.old.state.cells (Value.Array s) ≡ true }
+    requires args { KnowsAll heap.old.state.cells args.now }
+    ensures { Keeps heap.old.state.cells heap.new.state.cells }
 {
     let answer = array_call(alloc, heap, method, s, args);
     described(alloc, heap, &answer)
@@ -45,8 +45,8 @@ fn array_answer_of_one(
     s: Serial,
     first: Sample,
 ) -> Result<String, Fail>
-    requires { knows heap.old.cells (Value.Array s) ≡ true }
-    ensures { Keeps heap.old.cells heap.new.cells }
+    requires { knows heap.old.state.cells (Value.Array s) ≡ true }
+    ensures { Keeps heap.old.state.cells heap.new.state.cells }
 {
     let v = made(alloc, heap, first)?;
     array_answer(alloc, heap, method, s, &[v])
@@ -60,8 +60,8 @@ fn array_answer_of_two(
     first: Sample,
     second: Sample,
 ) -> Result<String, Fail>
-    requires { knows heap.old.cells (Value.Array s) ≡ true }
-    ensures { Keeps heap.old.cells heap.new.cells }
+    requires { knows heap.old.state.cells (Value.Array s) ≡ true }
+    ensures { Keeps heap.old.state.cells heap.new.state.cells }
 {
     let v = made(alloc, heap, first)?;
     let w = made(alloc, heap, second)?;
@@ -76,8 +76,8 @@ fn call_array(
     method: ArrayMethod,
     args: &Args,
 ) -> Result<String, Fail>
-    requires { knows heap.old.cells (Value.Array s) ≡ true }
-    ensures { Keeps heap.old.cells heap.new.cells }
+    requires { knows heap.old.state.cells (Value.Array s) ≡ true }
+    ensures { Keeps heap.old.state.cells heap.new.state.cells }
 {
     let null = Value::Null;
     match args {
@@ -95,7 +95,7 @@ fn call_array(
 }
 
 fn items_of(alloc: Global, heap: &Heap, s: Serial) -> Result<String, Fail>
-    requires { knows heap.now.cells (Value.Array s) ≡ true }
+    requires { knows heap.now.state.cells (Value.Array s) ≡ true }
 {
     listed(alloc, items(heap, s))
 }
@@ -319,9 +319,9 @@ fn dict_answer(
     d: Serial,
     args: &[Value],
 ) -> Result<String, Fail>
-    requires dict { knows heap.old.cells (Value.Dict d) ≡ true }
-    requires args { KnowsAll heap.old.cells args.now }
-    ensures { Keeps heap.old.cells heap.new.cells }
+    requires dict { knows heap.old.state.cells (Value.Dict d) ≡ true }
+    requires args { KnowsAll heap.old.state.cells args.now }
+    ensures { Keeps heap.old.state.cells heap.new.state.cells }
 {
     let answer = dict_call(alloc, heap, method, d, args);
     described(alloc, heap, &answer)
@@ -334,8 +334,8 @@ fn dict_answer_of_one(
     d: Serial,
     first: Sample,
 ) -> Result<String, Fail>
-    requires { knows heap.old.cells (Value.Dict d) ≡ true }
-    ensures { Keeps heap.old.cells heap.new.cells }
+    requires { knows heap.old.state.cells (Value.Dict d) ≡ true }
+    ensures { Keeps heap.old.state.cells heap.new.state.cells }
 {
     let v = made(alloc, heap, first)?;
     dict_answer(alloc, heap, method, d, &[v])
@@ -349,8 +349,8 @@ fn dict_answer_of_two(
     first: Sample,
     second: Sample,
 ) -> Result<String, Fail>
-    requires { knows heap.old.cells (Value.Dict d) ≡ true }
-    ensures { Keeps heap.old.cells heap.new.cells }
+    requires { knows heap.old.state.cells (Value.Dict d) ≡ true }
+    ensures { Keeps heap.old.state.cells heap.new.state.cells }
 {
     let v = made(alloc, heap, first)?;
     let w = made(alloc, heap, second)?;
@@ -365,8 +365,8 @@ fn call_dict(
     method: DictMethod,
     args: &Args,
 ) -> Result<String, Fail>
-    requires { knows heap.old.cells (Value.Dict d) ≡ true }
-    ensures { Keeps heap.old.cells heap.new.cells }
+    requires { knows heap.old.state.cells (Value.Dict d) ≡ true }
+    ensures { Keeps heap.old.state.cells heap.new.state.cells }
 {
     let null = Value::Null;
     match args {
@@ -480,8 +480,8 @@ fn check_dict_calls(
     d: Serial,
     cases: &[(DictMethod, Args, &str)],
 ) -> Result<(), Fail>
-    requires { knows heap.old.cells (Value.Dict d) ≡ true }
-    ensures { Keeps heap.old.cells heap.new.cells }
+    requires { knows heap.old.state.cells (Value.Dict d) ≡ true }
+    ensures { Keeps heap.old.state.cells heap.new.state.cells }
 {
     for case in cases {
         let answer = call_dict(rt.alloc(), heap, d, case.0, &case.1)?;

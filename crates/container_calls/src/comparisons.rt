@@ -44,9 +44,9 @@ fn same_at(
     b: &Value,
     room: u32,
 ) -> Result<Option<u32>, RunFault>
-    requires left { knows heap.now.cells a.now ≡ true }
-    requires right { knows heap.now.cells b.now ≡ true }
-    ensures { result ≡ same_by heap.now.cells (arrays_at heap.now.cells levels) (dicts_at heap.now.cells levels) a.now b.now room }
+    requires left { knows heap.now.state.cells a.now ≡ true }
+    requires right { knows heap.now.state.cells b.now ≡ true }
+    ensures { result ≡ same_by heap.now.state.cells (arrays_at heap.now.state.cells levels) (dicts_at heap.now.state.cells levels) a.now b.now room }
 {
     match (a, b) {
         (Value::Array(a), Value::Array(b)) => same_arrays(heap, levels, *a, *b, room),
@@ -63,9 +63,9 @@ fn same_arrays(
     b: Serial,
     room: u32,
 ) -> Result<Option<u32>, RunFault>
-    requires left { is_array (cell_at heap.now.cells a.0) ≡ true }
-    requires right { is_array (cell_at heap.now.cells b.0) ≡ true }
-    ensures { result ≡ same_by heap.now.cells (arrays_at heap.now.cells levels) (dicts_at heap.now.cells levels) (Value.Array a) (Value.Array b) room }
+    requires left { is_array (cell_at heap.now.state.cells a.0) ≡ true }
+    requires right { is_array (cell_at heap.now.state.cells b.0) ≡ true }
+    ensures { result ≡ same_by heap.now.state.cells (arrays_at heap.now.state.cells levels) (dicts_at heap.now.state.cells levels) (Value.Array a) (Value.Array b) room }
 {
     if a.0 == b.0 {
         return Ok(Some(room));
@@ -86,9 +86,9 @@ fn open_arrays(
     room: u32,
 ) -> Result<Option<u32>, RunFault>
     requires size { length vs.now ≡ length ws.now }
-    requires left { KnowsAll heap.now.cells vs.now }
-    requires right { KnowsAll heap.now.cells ws.now }
-    ensures { result ≡ arrays_at heap.now.cells levels vs.now ws.now room }
+    requires left { KnowsAll heap.now.state.cells vs.now }
+    requires right { KnowsAll heap.now.state.cells ws.now }
+    ensures { result ≡ arrays_at heap.now.state.cells levels vs.now ws.now room }
 {
     if levels == 0 {
         return Err(RunFault::TooDeep);
@@ -105,9 +105,9 @@ fn same_items(
     room: u32,
 ) -> Result<Option<u32>, RunFault>
     requires size { length vs.now ≡ length ws.now }
-    requires left { KnowsAll heap.now.cells vs.now }
-    requires right { KnowsAll heap.now.cells ws.now }
-    ensures { result ≡ same_items (λ a b n. same_at heap.now.cells levels a b n) vs.now ws.now room }
+    requires left { KnowsAll heap.now.state.cells vs.now }
+    requires right { KnowsAll heap.now.state.cells ws.now }
+    ensures { result ≡ same_items (λ a b n. same_at heap.now.state.cells levels a b n) vs.now ws.now room }
 {
     let mut left = room;
     for i in 0..vs.len() {
@@ -131,9 +131,9 @@ fn same_dicts(
     b: Serial,
     room: u32,
 ) -> Result<Option<u32>, RunFault>
-    requires left { is_dict (cell_at heap.now.cells a.0) ≡ true }
-    requires right { is_dict (cell_at heap.now.cells b.0) ≡ true }
-    ensures { result ≡ same_by heap.now.cells (arrays_at heap.now.cells levels) (dicts_at heap.now.cells levels) (Value.Dict a) (Value.Dict b) room }
+    requires left { is_dict (cell_at heap.now.state.cells a.0) ≡ true }
+    requires right { is_dict (cell_at heap.now.state.cells b.0) ≡ true }
+    ensures { result ≡ same_by heap.now.state.cells (arrays_at heap.now.state.cells levels) (dicts_at heap.now.state.cells levels) (Value.Dict a) (Value.Dict b) room }
 {
     if a.0 == b.0 {
         return Ok(Some(room));
@@ -153,9 +153,9 @@ fn open_dicts(
     fs: &Entries,
     room: u32,
 ) -> Result<Option<u32>, RunFault>
-    requires left { KnowsEntries heap.now.cells es.now }
-    requires right { KnowsEntries heap.now.cells fs.now }
-    ensures { result ≡ dicts_at heap.now.cells levels es.now fs.now room }
+    requires left { KnowsEntries heap.now.state.cells es.now }
+    requires right { KnowsEntries heap.now.state.cells fs.now }
+    ensures { result ≡ dicts_at heap.now.state.cells levels es.now fs.now room }
 {
     if levels == 0 {
         return Err(RunFault::TooDeep);
@@ -171,9 +171,9 @@ fn same_entries(
     fs: &Entries,
     room: u32,
 ) -> Result<Option<u32>, RunFault>
-    requires left { KnowsEntries heap.now.cells es.now }
-    requires right { KnowsEntries heap.now.cells fs.now }
-    ensures { result ≡ same_entries (λ a b n. same_at heap.now.cells levels a b n) es.now fs.now room }
+    requires left { KnowsEntries heap.now.state.cells es.now }
+    requires right { KnowsEntries heap.now.state.cells fs.now }
+    ensures { result ≡ same_entries (λ a b n. same_at heap.now.state.cells levels a b n) es.now fs.now room }
 {
     let mut left = room;
     for i in 0..es.len() {
@@ -205,9 +205,9 @@ fn verdict(walked: Result<Option<u32>, RunFault>) -> Result<bool, RunFault>
 
 /// Whether two values are of one kind and equal, by a walk of its own.
 pub fn same_value(heap: &Heap, a: &Value, b: &Value) -> Result<bool, RunFault>
-    requires left { knows heap.now.cells a.now ≡ true }
-    requires right { knows heap.now.cells b.now ≡ true }
-    ensures { result ≡ same_value heap.now.cells a.now b.now }
+    requires left { knows heap.now.state.cells a.now ≡ true }
+    requires right { knows heap.now.state.cells b.now ≡ true }
+    ensures { result ≡ same_value heap.now.state.cells a.now b.now }
 {
     verdict(same_at(heap, MOST_LEVELS, a, b, ITEMS))
 }
@@ -223,9 +223,9 @@ fn or_refused(answer: Option<bool>) -> Result<bool, RunFault>
 
 /// Whether `a == b`: both are of one kind, or one is null.
 pub fn equality(heap: &Heap, a: &Value, b: &Value) -> Result<bool, RunFault>
-    requires left { knows heap.now.cells a.now ≡ true }
-    requires right { knows heap.now.cells b.now ≡ true }
-    ensures { result ≡ equality heap.now.cells a.now b.now }
+    requires left { knows heap.now.state.cells a.now ≡ true }
+    requires right { knows heap.now.state.cells b.now ≡ true }
+    ensures { result ≡ equality heap.now.state.cells a.now b.now }
 {
     match (a, b) {
         (Value::Array(_), Value::Array(_)) => same_value(heap, a, b),
@@ -236,9 +236,9 @@ pub fn equality(heap: &Heap, a: &Value, b: &Value) -> Result<bool, RunFault>
 
 /// The place of the first item that is equal to a value, which is the left operand of each comparison.
 pub fn first_equal(heap: &Heap, v: &Value, items: &[Value]) -> Result<Option<usize>, RunFault>
-    requires value { knows heap.now.cells v.now ≡ true }
-    requires items { KnowsAll heap.now.cells items.now }
-    ensures found { result ≡ first_equal (λ w. same_value heap.now.cells v.now w) 0 items.now }
+    requires value { knows heap.now.state.cells v.now ≡ true }
+    requires items { KnowsAll heap.now.state.cells items.now }
+    ensures found { result ≡ first_equal (λ w. same_value heap.now.state.cells v.now w) 0 items.now }
     ensures within { IfOk result (λ found. IfSome found (λ at. at < length items.now)) }
 {
     for i in 0..items.len() {
@@ -273,9 +273,9 @@ fn same_place(same: Result<bool, RunFault>, i: usize) -> Result<Option<usize>, R
 
 /// How many items are equal to a value.
 pub fn count_equal(heap: &Heap, v: &Value, items: &[Value]) -> Result<usize, RunFault>
-    requires value { knows heap.now.cells v.now ≡ true }
-    requires items { KnowsAll heap.now.cells items.now }
-    ensures count { result ≡ count_equal (λ w. same_value heap.now.cells v.now w) 0 items.now }
+    requires value { knows heap.now.state.cells v.now ≡ true }
+    requires items { KnowsAll heap.now.state.cells items.now }
+    ensures count { result ≡ count_equal (λ w. same_value heap.now.state.cells v.now w) 0 items.now }
     ensures few { IfOk result (λ count. count ≤ length items.now) }
 {
     let mut count = 0;

@@ -23,10 +23,10 @@ fn with_none(
     method: DictMethod,
     of: Serial,
 ) -> Result<Value, Trouble>
-    requires { is_dict (cell_at heap.old.cells of.0) ≡ true }
-    ensures given { HasGiven result heap.old heap.new (dict_call_of heap.old method of []) }
-    ensures keeps { Keeps heap.old.cells heap.new.cells }
-    ensures known { IfOk result (λ v. knows heap.new.cells v ≡ true) }
+    requires { is_dict (cell_at heap.old.state.cells of.0) ≡ true }
+    ensures given { HasGiven result heap.old.state heap.new.state (dict_call_of heap.old.state method of []) }
+    ensures keeps { Keeps heap.old.state.cells heap.new.state.cells }
+    ensures known { IfOk result (λ v. knows heap.new.state.cells v ≡ true) }
 {
     match method {
         DictMethod::Size => Ok(dicts::size(heap, of)?),
@@ -40,10 +40,10 @@ fn with_none(
 }
 
 fn duplicate(alloc: Global, heap: &mut Heap, of: Serial, deep: &Value) -> Result<Value, Trouble>
-    requires { is_dict (cell_at heap.old.cells of.0) ≡ true }
-    ensures given { HasGiven result heap.old heap.new (with_given (truth_in deep.now) (λ deep. dict_duplicate_of heap.old of deep)) }
-    ensures keeps { Keeps heap.old.cells heap.new.cells }
-    ensures known { IfOk result (λ v. knows heap.new.cells v ≡ true) }
+    requires { is_dict (cell_at heap.old.state.cells of.0) ≡ true }
+    ensures given { HasGiven result heap.old.state heap.new.state (with_given (truth_in deep.now) (λ deep. dict_duplicate_of heap.old.state of deep)) }
+    ensures keeps { Keeps heap.old.state.cells heap.new.state.cells }
+    ensures known { IfOk result (λ v. knows heap.new.state.cells v ≡ true) }
 {
     match truth_in(deep) {
         Some(true) => deep_copy(alloc, heap, &Value::Dict(of)),
@@ -53,11 +53,11 @@ fn duplicate(alloc: Global, heap: &mut Heap, of: Serial, deep: &Value) -> Result
 }
 
 fn merge_missing(heap: &mut Heap, of: Serial, other: &Value) -> Result<Value, Trouble>
-    requires dict { is_dict (cell_at heap.old.cells of.0) ≡ true }
-    requires other { knows heap.old.cells other.now ≡ true }
-    ensures given { HasGiven result heap.old heap.new (dict_call_of heap.old DictMethod.Merge of (other.now ∷ [])) }
-    ensures keeps { Keeps heap.old.cells heap.new.cells }
-    ensures known { IfOk result (λ v. knows heap.new.cells v ≡ true) }
+    requires dict { is_dict (cell_at heap.old.state.cells of.0) ≡ true }
+    requires other { knows heap.old.state.cells other.now ≡ true }
+    ensures given { HasGiven result heap.old.state heap.new.state (dict_call_of heap.old.state DictMethod.Merge of (other.now ∷ [])) }
+    ensures keeps { Keeps heap.old.state.cells heap.new.state.cells }
+    ensures known { IfOk result (λ v. knows heap.new.state.cells v ≡ true) }
 {
     match dict_in(heap, other) {
         Some(other) => merge(heap, of, other, false),
@@ -72,11 +72,11 @@ fn with_one(
     of: Serial,
     v: &Value,
 ) -> Result<Value, Trouble>
-    requires dict { is_dict (cell_at heap.old.cells of.0) ≡ true }
-    requires value { knows heap.old.cells v.now ≡ true }
-    ensures given { HasGiven result heap.old heap.new (dict_call_of heap.old method of (v.now ∷ [])) }
-    ensures keeps { Keeps heap.old.cells heap.new.cells }
-    ensures known { IfOk result (λ v. knows heap.new.cells v ≡ true) }
+    requires dict { is_dict (cell_at heap.old.state.cells of.0) ≡ true }
+    requires value { knows heap.old.state.cells v.now ≡ true }
+    ensures given { HasGiven result heap.old.state heap.new.state (dict_call_of heap.old.state method of (v.now ∷ [])) }
+    ensures keeps { Keeps heap.old.state.cells heap.new.state.cells }
+    ensures known { IfOk result (λ v. knows heap.new.state.cells v ≡ true) }
 {
     match method {
         DictMethod::Has => dicts::has(heap, of, v),
@@ -98,11 +98,11 @@ fn merge_with(
     other: &Value,
     overwrite: &Value,
 ) -> Result<Value, Trouble>
-    requires dict { is_dict (cell_at heap.old.cells of.0) ≡ true }
-    requires other { knows heap.old.cells other.now ≡ true }
-    ensures given { HasGiven result heap.old heap.new (dict_call_of heap.old DictMethod.Merge of (other.now ∷ overwrite.now ∷ [])) }
-    ensures keeps { Keeps heap.old.cells heap.new.cells }
-    ensures known { IfOk result (λ v. knows heap.new.cells v ≡ true) }
+    requires dict { is_dict (cell_at heap.old.state.cells of.0) ≡ true }
+    requires other { knows heap.old.state.cells other.now ≡ true }
+    ensures given { HasGiven result heap.old.state heap.new.state (dict_call_of heap.old.state DictMethod.Merge of (other.now ∷ overwrite.now ∷ [])) }
+    ensures keeps { Keeps heap.old.state.cells heap.new.state.cells }
+    ensures known { IfOk result (λ v. knows heap.new.state.cells v ≡ true) }
 {
     match (dict_in(heap, other), truth_in(overwrite)) {
         (Some(other), Some(overwrite)) => merge(heap, of, other, overwrite),
@@ -117,12 +117,12 @@ fn with_two(
     v: &Value,
     w: &Value,
 ) -> Result<Value, Trouble>
-    requires dict { is_dict (cell_at heap.old.cells of.0) ≡ true }
-    requires first { knows heap.old.cells v.now ≡ true }
-    requires second { knows heap.old.cells w.now ≡ true }
-    ensures given { HasGiven result heap.old heap.new (dict_call_of heap.old method of (v.now ∷ w.now ∷ [])) }
-    ensures keeps { Keeps heap.old.cells heap.new.cells }
-    ensures known { IfOk result (λ v. knows heap.new.cells v ≡ true) }
+    requires dict { is_dict (cell_at heap.old.state.cells of.0) ≡ true }
+    requires first { knows heap.old.state.cells v.now ≡ true }
+    requires second { knows heap.old.state.cells w.now ≡ true }
+    ensures given { HasGiven result heap.old.state heap.new.state (dict_call_of heap.old.state method of (v.now ∷ w.now ∷ [])) }
+    ensures keeps { Keeps heap.old.state.cells heap.new.state.cells }
+    ensures known { IfOk result (λ v. knows heap.new.state.cells v ≡ true) }
 {
     match method {
         DictMethod::Get => dicts::get(heap, of, v, w),
@@ -149,11 +149,11 @@ pub fn dict_call(
     of: Serial,
     args: &[Value],
 ) -> Result<Value, Trouble>
-    requires dict { is_dict (cell_at heap.old.cells of.0) ≡ true }
-    requires args { KnowsAll heap.old.cells args.now }
-    ensures given { HasGiven result heap.old heap.new (dict_call_of heap.old method of args.now) }
-    ensures keeps { Keeps heap.old.cells heap.new.cells }
-    ensures known { IfOk result (λ v. knows heap.new.cells v ≡ true) }
+    requires dict { is_dict (cell_at heap.old.state.cells of.0) ≡ true }
+    requires args { KnowsAll heap.old.state.cells args.now }
+    ensures given { HasGiven result heap.old.state heap.new.state (dict_call_of heap.old.state method of args.now) }
+    ensures keeps { Keeps heap.old.state.cells heap.new.state.cells }
+    ensures known { IfOk result (λ v. knows heap.new.state.cells v ≡ true) }
 {
     match args {
         [] => with_none(alloc, heap, method, of),

@@ -47,10 +47,10 @@ fn write(
     key: &Value,
     to: &Value,
 ) -> Result<Value, Trouble>
-    requires dict { knows heap.old.cells (Value.Dict d) ≡ true }
-    requires key { knows heap.old.cells key.now ≡ true }
-    requires to { knows heap.old.cells to.now ≡ true }
-    ensures { Keeps heap.old.cells heap.new.cells }
+    requires dict { knows heap.old.state.cells (Value.Dict d) ≡ true }
+    requires key { knows heap.old.state.cells key.now ≡ true }
+    requires to { knows heap.old.state.cells to.now ≡ true }
+    ensures { Keeps heap.old.state.cells heap.new.state.cells }
 {
     set_index(alloc, heap, &Value::Dict(d), key, to.clone()?)?;
     Ok(Value::Null)
@@ -63,9 +63,9 @@ fn whole_call(
     call: &Call,
     v: &Value,
 ) -> Result<Value, Trouble>
-    requires dict { knows heap.old.cells (Value.Dict d) ≡ true }
-    requires value { knows heap.old.cells v.now ≡ true }
-    ensures { Keeps heap.old.cells heap.new.cells }
+    requires dict { knows heap.old.state.cells (Value.Dict d) ≡ true }
+    requires value { knows heap.old.state.cells v.now ≡ true }
+    ensures { Keeps heap.old.state.cells heap.new.state.cells }
 {
     match call {
         Call::Erase(_) => dicts::erase(heap, d, v),
@@ -77,7 +77,7 @@ fn whole_call(
 }
 
 fn look(heap: &Heap, d: Serial, call: &Call, v: &Value) -> Result<Value, Trouble>
-    requires { knows heap.now.cells (Value.Dict d) ≡ true }
+    requires { knows heap.now.state.cells (Value.Dict d) ≡ true }
 {
     match call {
         Call::Size => Ok(dicts::size(heap, d)?),
@@ -103,9 +103,9 @@ fn any_call(
     call: &Call,
     v: &Value,
 ) -> Result<Value, Trouble>
-    requires dict { knows heap.old.cells (Value.Dict d) ≡ true }
-    requires value { knows heap.old.cells v.now ≡ true }
-    ensures { Keeps heap.old.cells heap.new.cells }
+    requires dict { knows heap.old.state.cells (Value.Dict d) ≡ true }
+    requires value { knows heap.old.state.cells v.now ≡ true }
+    ensures { Keeps heap.old.state.cells heap.new.state.cells }
 {
     if looks(call) {
         look(heap, d, call, v)
@@ -116,8 +116,8 @@ fn any_call(
 
 /// Makes a call, and tells the answer in words.
 fn answer_of(alloc: Global, heap: &mut Heap, d: Serial, call: &Call) -> Result<String, Fail>
-    requires { knows heap.old.cells (Value.Dict d) ≡ true }
-    ensures { Keeps heap.old.cells heap.new.cells }
+    requires { knows heap.old.state.cells (Value.Dict d) ≡ true }
+    ensures { Keeps heap.old.state.cells heap.new.state.cells }
 {
     let v = made(alloc, heap, operand(call))?;
     let answer = any_call(alloc, heap, d, call, &v);
@@ -130,8 +130,8 @@ fn check_entries(
     d: Serial,
     wanted: &str,
 ) -> Result<(), Fail>
-    requires { knows heap.old.cells (Value.Dict d) ≡ true }
-    ensures { Keeps heap.old.cells heap.new.cells }
+    requires { knows heap.old.state.cells (Value.Dict d) ≡ true }
+    ensures { Keeps heap.old.state.cells heap.new.state.cells }
 {
     assert_eq!(rt; keys_and_values(rt.alloc(), heap, d)?.as_str(), wanted);
     Ok(())
@@ -143,8 +143,8 @@ fn check(
     d: Serial,
     case: &(Call, &str, &str),
 ) -> Result<(), Fail>
-    requires { knows heap.old.cells (Value.Dict d) ≡ true }
-    ensures { Keeps heap.old.cells heap.new.cells }
+    requires { knows heap.old.state.cells (Value.Dict d) ≡ true }
+    ensures { Keeps heap.old.state.cells heap.new.state.cells }
 {
     let answer = answer_of(rt.alloc(), heap, d, &case.0)?;
     assert_eq!(rt; answer.as_str(), case.1);
@@ -158,8 +158,8 @@ fn check_all(
     d: Serial,
     cases: &[(Call, &str, &str)],
 ) -> Result<(), Fail>
-    requires { knows heap.old.cells (Value.Dict d) ≡ true }
-    ensures { Keeps heap.old.cells heap.new.cells }
+    requires { knows heap.old.state.cells (Value.Dict d) ≡ true }
+    ensures { Keeps heap.old.state.cells heap.new.state.cells }
 {
     for case in cases {
         check(rt, heap, d, case)?;
@@ -174,8 +174,8 @@ fn check_answers(
     d: Serial,
     cases: &[(Call, &str)],
 ) -> Result<(), Fail>
-    requires { knows heap.old.cells (Value.Dict d) ≡ true }
-    ensures { Keeps heap.old.cells heap.new.cells }
+    requires { knows heap.old.state.cells (Value.Dict d) ≡ true }
+    ensures { Keeps heap.old.state.cells heap.new.state.cells }
 {
     for case in cases {
         let answer = answer_of(rt.alloc(), heap, d, &case.0)?;
@@ -252,9 +252,9 @@ fn entries_looked_for(rt: HostRuntime) -> Result<(), Fail> {
 
 /// The dictionary that is a copy of one.
 fn add_copy(alloc: Global, heap: &mut Heap, d: Serial) -> Result<Serial, Fail>
-    requires { knows heap.old.cells (Value.Dict d) ≡ true }
-    ensures dict { IfOk result (λ e. knows heap.new.cells (Value.Dict e) ≡ true) }
-    ensures keeps { Keeps heap.old.cells heap.new.cells }
+    requires { knows heap.old.state.cells (Value.Dict d) ≡ true }
+    ensures dict { IfOk result (λ e. knows heap.new.state.cells (Value.Dict e) ≡ true) }
+    ensures keeps { Keeps heap.old.state.cells heap.new.state.cells }
 {
     match dicts::duplicate(alloc, heap, d) {
         Ok(Value::Dict(e)) => Ok(e),
@@ -299,8 +299,8 @@ enum CopyCall {
 }
 
 fn copied(alloc: Global, heap: &mut Heap, d: Serial, call: &CopyCall) -> Result<Value, Trouble>
-    requires { knows heap.old.cells (Value.Dict d) ≡ true }
-    ensures { Keeps heap.old.cells heap.new.cells }
+    requires { knows heap.old.state.cells (Value.Dict d) ≡ true }
+    ensures { Keeps heap.old.state.cells heap.new.state.cells }
 {
     match call {
         CopyCall::Keys => dicts::keys(alloc, heap, d),
@@ -315,8 +315,8 @@ fn check_copies(
     d: Serial,
     cases: &[(CopyCall, &str)],
 ) -> Result<(), Fail>
-    requires { knows heap.old.cells (Value.Dict d) ≡ true }
-    ensures { Keeps heap.old.cells heap.new.cells }
+    requires { knows heap.old.state.cells (Value.Dict d) ≡ true }
+    ensures { Keeps heap.old.state.cells heap.new.state.cells }
 {
     for case in cases {
         let answer = copied(rt.alloc(), heap, d, &case.0);

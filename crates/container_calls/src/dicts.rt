@@ -19,37 +19,37 @@ use variant_values::values::{Key, Serial, Value};
 
 /// How many entries a dictionary has.
 pub fn size(heap: &Heap, of: Serial) -> Result<Value, RunFault>
-    requires { is_dict (cell_at heap.now.cells of.0) ≡ true }
-    ensures value { result ≡ dict_size_of (entries_in heap.now of.0) }
-    ensures known { IfOk result (λ v. knows heap.now.cells v ≡ true) }
+    requires { is_dict (cell_at heap.now.state.cells of.0) ≡ true }
+    ensures value { result ≡ dict_size_of (entries_in heap.now.state of.0) }
+    ensures known { IfOk result (λ v. knows heap.now.state.cells v ≡ true) }
 {
     Ok(Value::Int(entries(heap, of).len() as i64))
 }
 
 /// Whether it has none.
 pub fn is_empty(heap: &Heap, of: Serial) -> Result<Value, RunFault>
-    requires { is_dict (cell_at heap.now.cells of.0) ≡ true }
-    ensures value { result ≡ dict_emptiness_of (entries_in heap.now of.0) }
-    ensures known { IfOk result (λ v. knows heap.now.cells v ≡ true) }
+    requires { is_dict (cell_at heap.now.state.cells of.0) ≡ true }
+    ensures value { result ≡ dict_emptiness_of (entries_in heap.now.state of.0) }
+    ensures known { IfOk result (λ v. knows heap.now.state.cells v ≡ true) }
 {
     Ok(Value::Bool(entries(heap, of).len() == 0))
 }
 
 /// Whether a key is there.
 pub fn has(heap: &Heap, of: Serial, key: &Value) -> Result<Value, Trouble>
-    requires { is_dict (cell_at heap.now.cells of.0) ≡ true }
-    ensures value { Answers result (presence_of (entries_in heap.now of.0) (key_of key.now)) }
-    ensures known { IfOk result (λ v. knows heap.now.cells v ≡ true) }
+    requires { is_dict (cell_at heap.now.state.cells of.0) ≡ true }
+    ensures value { Answers result (presence_of (entries_in heap.now.state of.0) (key_of key.now)) }
+    ensures known { IfOk result (λ v. knows heap.now.state.cells v ≡ true) }
 {
     let key = Key::of(key)?;
     Ok(Value::Bool(entries(heap, of).get(&key).is_some()))
 }
 
 fn value_or(heap: &Heap, of: Serial, key: &Key, default: &Value) -> Result<Value, Trouble>
-    requires dict { is_dict (cell_at heap.now.cells of.0) ≡ true }
-    requires default { knows heap.now.cells default.now ≡ true }
-    ensures value { Answers result (Ok (unwrap_or (lookup (same_key key.now) (entries_in heap.now of.0)) default.now)) }
-    ensures known { IfOk result (λ v. knows heap.now.cells v ≡ true) }
+    requires dict { is_dict (cell_at heap.now.state.cells of.0) ≡ true }
+    requires default { knows heap.now.state.cells default.now ≡ true }
+    ensures value { Answers result (Ok (unwrap_or (lookup (same_key key.now) (entries_in heap.now.state of.0)) default.now)) }
+    ensures known { IfOk result (λ v. knows heap.now.state.cells v ≡ true) }
 {
     match value_at(heap, of, key) {
         Some(v) => Ok(v.clone()?),
@@ -59,10 +59,10 @@ fn value_or(heap: &Heap, of: Serial, key: &Key, default: &Value) -> Result<Value
 
 /// The value of a key, or the default where it is missing.
 pub fn get(heap: &Heap, of: Serial, key: &Value, default: &Value) -> Result<Value, Trouble>
-    requires dict { is_dict (cell_at heap.now.cells of.0) ≡ true }
-    requires default { knows heap.now.cells default.now ≡ true }
-    ensures value { Answers result (value_of (entries_in heap.now of.0) (key_of key.now) default.now) }
-    ensures known { IfOk result (λ v. knows heap.now.cells v ≡ true) }
+    requires dict { is_dict (cell_at heap.now.state.cells of.0) ≡ true }
+    requires default { knows heap.now.state.cells default.now ≡ true }
+    ensures value { Answers result (value_of (entries_in heap.now.state of.0) (key_of key.now) default.now) }
+    ensures known { IfOk result (λ v. knows heap.now.state.cells v ≡ true) }
 {
     let key = Key::of(key)?;
     value_or(heap, of, &key, default)
@@ -111,10 +111,10 @@ fn list_values(alloc: Global, entries: &Entries) -> Result<Vec<Value>, AllocErro
 
 /// A new array of the keys, in order.
 pub fn keys(alloc: Global, heap: &mut Heap, of: Serial) -> Result<Value, Trouble>
-    requires { is_dict (cell_at heap.old.cells of.0) ≡ true }
-    ensures given { HasGiven result heap.old heap.new (keys_of heap.old of.0) }
-    ensures keeps { Keeps heap.old.cells heap.new.cells }
-    ensures known { IfOk result (λ v. knows heap.new.cells v ≡ true) }
+    requires { is_dict (cell_at heap.old.state.cells of.0) ≡ true }
+    ensures given { HasGiven result heap.old.state heap.new.state (keys_of heap.old.state of.0) }
+    ensures keeps { Keeps heap.old.state.cells heap.new.state.cells }
+    ensures known { IfOk result (λ v. knows heap.new.state.cells v ≡ true) }
 {
     let list = list_keys(alloc, entries(heap, of))?;
     new_array(heap, list, None)
@@ -122,10 +122,10 @@ pub fn keys(alloc: Global, heap: &mut Heap, of: Serial) -> Result<Value, Trouble
 
 /// A new array of the values, in order.
 pub fn values(alloc: Global, heap: &mut Heap, of: Serial) -> Result<Value, Trouble>
-    requires { is_dict (cell_at heap.old.cells of.0) ≡ true }
-    ensures given { HasGiven result heap.old heap.new (values_of heap.old of.0) }
-    ensures keeps { Keeps heap.old.cells heap.new.cells }
-    ensures known { IfOk result (λ v. knows heap.new.cells v ≡ true) }
+    requires { is_dict (cell_at heap.old.state.cells of.0) ≡ true }
+    ensures given { HasGiven result heap.old.state heap.new.state (values_of heap.old.state of.0) }
+    ensures keeps { Keeps heap.old.state.cells heap.new.state.cells }
+    ensures known { IfOk result (λ v. knows heap.new.state.cells v ≡ true) }
 {
     let list = list_values(alloc, entries(heap, of))?;
     new_array(heap, list, None)
@@ -133,11 +133,11 @@ pub fn values(alloc: Global, heap: &mut Heap, of: Serial) -> Result<Value, Troub
 
 /// Takes a key out, and gives whether it was there.
 pub fn erase(heap: &mut Heap, of: Serial, key: &Value) -> Result<Value, Trouble>
-    requires dict { is_dict (cell_at heap.old.cells of.0) ≡ true }
-    requires key { knows heap.old.cells key.now ≡ true }
-    ensures given { HasGiven result heap.old heap.new (dict_erase_of heap.old of.0 (key_of key.now)) }
-    ensures keeps { Keeps heap.old.cells heap.new.cells }
-    ensures known { IfOk result (λ v. knows heap.new.cells v ≡ true) }
+    requires dict { is_dict (cell_at heap.old.state.cells of.0) ≡ true }
+    requires key { knows heap.old.state.cells key.now ≡ true }
+    ensures given { HasGiven result heap.old.state heap.new.state (dict_erase_of heap.old.state of.0 (key_of key.now)) }
+    ensures keeps { Keeps heap.old.state.cells heap.new.state.cells }
+    ensures known { IfOk result (λ v. knows heap.new.state.cells v ≡ true) }
 {
     let key = Key::of(key)?;
     Ok(Value::Bool(heap.remove_entry(of, &key)))
@@ -156,10 +156,10 @@ fn last_key(entries: &Entries) -> Result<Option<Key>, AllocError>
 
 /// Takes out all entries.
 pub fn clear(heap: &mut Heap, of: Serial) -> Result<Value, Trouble>
-    requires { is_dict (cell_at heap.old.cells of.0) ≡ true }
-    ensures given { HasGiven result heap.old heap.new (dict_clear_of heap.old of.0) }
-    ensures keeps { Keeps heap.old.cells heap.new.cells }
-    ensures known { IfOk result (λ v. knows heap.new.cells v ≡ true) }
+    requires { is_dict (cell_at heap.old.state.cells of.0) ≡ true }
+    ensures given { HasGiven result heap.old.state heap.new.state (dict_clear_of heap.old.state of.0) }
+    ensures keeps { Keeps heap.old.state.cells heap.new.state.cells }
+    ensures known { IfOk result (λ v. knows heap.new.state.cells v ≡ true) }
 {
     while let Some(key) = last_key(entries(heap, of))? {
         heap.remove_entry(of, &key);
@@ -169,10 +169,10 @@ pub fn clear(heap: &mut Heap, of: Serial) -> Result<Value, Trouble>
 
 /// A new dictionary of the same entries. Containers inside stay shared.
 pub fn duplicate(alloc: Global, heap: &mut Heap, of: Serial) -> Result<Value, Trouble>
-    requires { is_dict (cell_at heap.old.cells of.0) ≡ true }
-    ensures given { HasGiven result heap.old heap.new (dict_shallow_of heap.old of.0) }
-    ensures keeps { Keeps heap.old.cells heap.new.cells }
-    ensures known { IfOk result (λ v. knows heap.new.cells v ≡ true) }
+    requires { is_dict (cell_at heap.old.state.cells of.0) ≡ true }
+    ensures given { HasGiven result heap.old.state heap.new.state (dict_shallow_of heap.old.state of.0) }
+    ensures keeps { Keeps heap.old.state.cells heap.new.state.cells }
+    ensures known { IfOk result (λ v. knows heap.new.state.cells v ≡ true) }
 {
     let copy = copied_entries(alloc, entries(heap, of))?;
     new_dict(heap, copy)

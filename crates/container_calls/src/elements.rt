@@ -22,8 +22,8 @@ fn is_among(tags: &[ClassTag], class: &ClassTag) -> bool
 }
 
 fn has_class(heap: &Heap, of: Serial, class: &ClassTag) -> bool
-    requires { knows_object heap.now.cells of ≡ true }
-    ensures { result ≡ list_any (same_class class.now) (lineage_of (cell_at heap.now.cells of.0)) }
+    requires { knows_object heap.now.state.cells of ≡ true }
+    ensures { result ≡ list_any (same_class class.now) (lineage_of (cell_at heap.now.state.cells of.0)) }
 {
     match heap.cell(of) {
         Some(Cell::Object(object)) => is_among(object.lineage.as_slice(), class),
@@ -33,8 +33,8 @@ fn has_class(heap: &Heap, of: Serial, class: &ClassTag) -> bool
 
 /// Whether a value is null, or a living object of the class.
 fn is_instance(heap: &Heap, class: &ClassTag, v: &Value) -> bool
-    requires { knows heap.now.cells v.now ≡ true }
-    ensures { result ≡ is_instance heap.now.cells class.now v.now }
+    requires { knows heap.now.state.cells v.now ≡ true }
+    ensures { result ≡ is_instance heap.now.state.cells class.now v.now }
 {
     match v {
         Value::Null => true,
@@ -44,8 +44,8 @@ fn is_instance(heap: &Heap, class: &ClassTag, v: &Value) -> bool
 }
 
 fn is_of(heap: &Heap, tag: ElementTag, v: &Value) -> bool
-    requires { knows heap.now.cells v.now ≡ true }
-    ensures { result ≡ is_of heap.now.cells tag v.now }
+    requires { knows heap.now.state.cells v.now ≡ true }
+    ensures { result ≡ is_of heap.now.state.cells tag v.now }
 {
     match (tag, v) {
         (ElementTag::Bool, Value::Bool(_)) => true,
@@ -64,8 +64,8 @@ fn is_of(heap: &Heap, tag: ElementTag, v: &Value) -> bool
 
 /// Whether an array of the element type takes a value.
 pub fn is_taken(heap: &Heap, element: Option<ElementTag>, v: &Value) -> bool
-    requires { knows heap.now.cells v.now ≡ true }
-    ensures { result ≡ is_taken heap.now.cells element v.now }
+    requires { knows heap.now.state.cells v.now ≡ true }
+    ensures { result ≡ is_taken heap.now.state.cells element v.now }
 {
     match element {
         Some(tag) => is_of(heap, tag, v),
@@ -75,8 +75,8 @@ pub fn is_taken(heap: &Heap, element: Option<ElementTag>, v: &Value) -> bool
 
 /// Whether it takes all of them.
 pub fn all_taken(heap: &Heap, element: Option<ElementTag>, values: &[Value]) -> bool
-    requires { KnowsAll heap.now.cells values.now }
-    ensures { result ≡ all_taken heap.now.cells element values.now }
+    requires { KnowsAll heap.now.state.cells values.now }
+    ensures { result ≡ all_taken heap.now.state.cells element values.now }
 {
     for v in values {
         if !is_taken(heap, element, v) {

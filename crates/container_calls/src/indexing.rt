@@ -33,9 +33,9 @@ pub(crate) fn spot(index: i64, len: usize) -> Option<usize>
 }
 
 fn item_at(heap: &Heap, items: &[Value], at: Option<usize>) -> Result<Value, Trouble>
-    requires { KnowsAll heap.now.cells items.now }
+    requires { KnowsAll heap.now.state.cells items.now }
     ensures value { Answers result (item_at items.now at) }
-    ensures known { IfOk result (λ v. knows heap.now.cells v ≡ true) }
+    ensures known { IfOk result (λ v. knows heap.now.state.cells v ≡ true) }
 {
     let Some(at) = at else {
         return Err(Trouble::Fault(RunFault::BadIndex));
@@ -47,9 +47,9 @@ fn item_at(heap: &Heap, items: &[Value], at: Option<usize>) -> Result<Value, Tro
 }
 
 fn item(heap: &Heap, items: &[Value], index: i64) -> Result<Value, Trouble>
-    requires { KnowsAll heap.now.cells items.now }
+    requires { KnowsAll heap.now.state.cells items.now }
     ensures value { Answers result (item_at items.now (spot index (length items.now))) }
-    ensures known { IfOk result (λ v. knows heap.now.cells v ≡ true) }
+    ensures known { IfOk result (λ v. knows heap.now.state.cells v ≡ true) }
 {
     item_at(heap, items, spot(index, items.len()))
 }
@@ -87,9 +87,9 @@ fn character(alloc: Global, text: &Str, index: i64) -> Result<Value, Trouble>
 }
 
 fn entry(heap: &Heap, of: Serial, index: &Value) -> Result<Value, Trouble>
-    requires { is_dict (cell_at heap.now.cells of.0) ≡ true }
-    ensures value { Answers result (entry_at (entries_of (cell_at heap.now.cells of.0)) (key_of index.now)) }
-    ensures known { IfOk result (λ v. knows heap.now.cells v ≡ true) }
+    requires { is_dict (cell_at heap.now.state.cells of.0) ≡ true }
+    ensures value { Answers result (entry_at (entries_of (cell_at heap.now.state.cells of.0)) (key_of index.now)) }
+    ensures known { IfOk result (λ v. knows heap.now.state.cells v ≡ true) }
 {
     let key = Key::of(index)?;
     match value_at(heap, of, &key) {
@@ -100,9 +100,9 @@ fn entry(heap: &Heap, of: Serial, index: &Value) -> Result<Value, Trouble>
 
 /// `of[index]`: an array or a text by place, where a negative one counts from the end, and a dictionary by key.
 pub fn get_index(alloc: Global, heap: &Heap, of: &Value, index: &Value) -> Result<Value, Trouble>
-    requires { knows heap.now.cells of.now ≡ true }
-    ensures value { Answers result (index_of heap.now.cells of.now index.now) }
-    ensures known { IfOk result (λ v. knows heap.now.cells v ≡ true) }
+    requires { knows heap.now.state.cells of.now ≡ true }
+    ensures value { Answers result (index_of heap.now.state.cells of.now index.now) }
+    ensures known { IfOk result (λ v. knows heap.now.state.cells v ≡ true) }
 {
     match (of, index) {
         (Value::Array(s), Value::Int(i)) => item(heap, items(heap, *s), *i),
@@ -119,10 +119,10 @@ fn set_item(
     index: i64,
     to: Value,
 ) -> Result<(), Trouble>
-    requires array { is_array (cell_at heap.old.cells of.0) ≡ true }
-    requires to { knows heap.old.cells to ≡ true }
-    ensures given { HasGiven result heap.old heap.new (item_put heap.old of.0 (spot index (length (items_of (cell_at heap.old.cells of.0)))) to) }
-    ensures keeps { Keeps heap.old.cells heap.new.cells }
+    requires array { is_array (cell_at heap.old.state.cells of.0) ≡ true }
+    requires to { knows heap.old.state.cells to ≡ true }
+    ensures given { HasGiven result heap.old.state heap.new.state (item_put heap.old.state of.0 (spot index (length (items_of (cell_at heap.old.state.cells of.0)))) to) }
+    ensures keeps { Keeps heap.old.state.cells heap.new.state.cells }
 {
     let Some(at) = spot(index, items(heap, of).len()) else {
         return Err(Trouble::Fault(RunFault::BadIndex));
@@ -135,11 +135,11 @@ fn set_item(
 
 /// Gives a dictionary an entry, where it has not too many then.
 fn put_entry(heap: &mut Heap, of: Serial, key: Key, to: Value) -> Result<(), Trouble>
-    requires dict { is_dict (cell_at heap.old.cells of.0) ≡ true }
-    requires key { knows_key heap.old.cells key ≡ true }
-    requires to { knows heap.old.cells to ≡ true }
-    ensures given { HasGiven result heap.old heap.new (entry_put_at heap.old of.0 key to) }
-    ensures keeps { Keeps heap.old.cells heap.new.cells }
+    requires dict { is_dict (cell_at heap.old.state.cells of.0) ≡ true }
+    requires key { knows_key heap.old.state.cells key ≡ true }
+    requires to { knows heap.old.state.cells to ≡ true }
+    ensures given { HasGiven result heap.old.state heap.new.state (entry_put_at heap.old.state of.0 key to) }
+    ensures keeps { Keeps heap.old.state.cells heap.new.state.cells }
 {
     if !has_room(entries(heap, of), &key) {
         return Err(Trouble::Fault(RunFault::TooLong));
@@ -158,11 +158,11 @@ fn has_room(entries: &Entries, key: &Key) -> bool
 }
 
 fn set_by_key(heap: &mut Heap, of: Serial, index: &Value, to: Value) -> Result<(), Trouble>
-    requires dict { is_dict (cell_at heap.old.cells of.0) ≡ true }
-    requires index { knows heap.old.cells index.now ≡ true }
-    requires to { knows heap.old.cells to ≡ true }
-    ensures given { HasGiven result heap.old heap.new (entry_put heap.old of.0 (key_of index.now) to) }
-    ensures keeps { Keeps heap.old.cells heap.new.cells }
+    requires dict { is_dict (cell_at heap.old.state.cells of.0) ≡ true }
+    requires index { knows heap.old.state.cells index.now ≡ true }
+    requires to { knows heap.old.state.cells to ≡ true }
+    ensures given { HasGiven result heap.old.state heap.new.state (entry_put heap.old.state of.0 (key_of index.now) to) }
+    ensures keeps { Keeps heap.old.state.cells heap.new.state.cells }
 {
     put_entry(heap, of, Key::of(index)?, to)
 }
@@ -175,11 +175,11 @@ pub fn set_index(
     index: &Value,
     to: Value,
 ) -> Result<(), Trouble>
-    requires of { knows heap.old.cells of.now ≡ true }
-    requires index { knows heap.old.cells index.now ≡ true }
-    requires to { knows heap.old.cells to ≡ true }
-    ensures given { HasGiven result heap.old heap.new (index_put heap.old of.now index.now to) }
-    ensures keeps { Keeps heap.old.cells heap.new.cells }
+    requires of { knows heap.old.state.cells of.now ≡ true }
+    requires index { knows heap.old.state.cells index.now ≡ true }
+    requires to { knows heap.old.state.cells to ≡ true }
+    ensures given { HasGiven result heap.old.state heap.new.state (index_put heap.old.state of.now index.now to) }
+    ensures keeps { Keeps heap.old.state.cells heap.new.state.cells }
 {
     match (of, index) {
         (Value::Array(s), Value::Int(i)) => set_item(alloc, heap, *s, *i, to),

@@ -1,10 +1,12 @@
 // The operators on all values.
-ghost use Rattle.std.specs.Prelude.{◌≡◌, ◌++◌, true, false, IfOk};
+ghost use Rattle.std.specs.Prelude.{◌≡◌, ◌++◌, true, false, List, Option, IfOk};
 ghost use Rattle.variant_values.specs.declared.operators.BinaryOp.TheVariants.{Rem, Add};
 ghost use Rattle.variant_values.specs.Heaps.{cell_at, is_array, items_of, knows, KnowsAll};
 ghost use Rattle.variant_values.specs.Operators.{binary_of, is_container, is_text, key_of, Answers};
 ghost use Rattle.variant_values.specs.Changes.{looked, Keeps, HasGiven};
-ghost use Rattle.variant_values.specs.Operations.{added, answered, arrays_joined, denied, has_key, in_text, is_found, is_part, is_value_op, operated, within};
+ghost use Rattle.variant_values.specs.declared.cells.Cell.{Cell as ACell};
+ghost use Rattle.variant_values.specs.ValueTexts.{Names};
+ghost use Rattle.variant_values.specs.Operations.{added, answered, arrays_joined, denied, has_key, in_text, is_found, is_part, is_value_op, operated, remainder, within};
 ghost use Rattle.container_calls.specs.Walks.{is_plain_op};
 
 use crate::comparisons::{equality, first_equal};
@@ -83,9 +85,9 @@ fn in_text(a: &Value, text: &Str) -> Result<Value, Trouble>
 
 /// `a in b`. A text stands in a text, an item in an array, a key in a dictionary.
 fn within(heap: &Heap, a: &Value, b: &Value) -> Result<Value, Trouble>
-    requires left { knows heap.now.cells a.now ≡ true }
-    requires right { knows heap.now.cells b.now ≡ true }
-    ensures { Answers result (within heap.now.cells a.now b.now) }
+    requires left { knows heap.now.state.cells a.now ≡ true }
+    requires right { knows heap.now.state.cells b.now ≡ true }
+    ensures { Answers result (within heap.now.state.cells a.now b.now) }
 {
     match b {
         Value::Array(s) => is_found(first_equal(heap, a, items(heap, *s))),
@@ -106,11 +108,11 @@ fn joined_items(alloc: Global, a: &[Value], b: &[Value]) -> Result<Vec<Value>, A
 }
 
 fn join_arrays(alloc: Global, heap: &mut Heap, a: Serial, b: Serial) -> Result<Value, Trouble>
-    requires left { is_array (cell_at heap.old.cells a.0) ≡ true }
-    requires right { is_array (cell_at heap.old.cells b.0) ≡ true }
-    ensures given { HasGiven result heap.old heap.new (arrays_joined heap.old a.0 b.0) }
-    ensures keeps { Keeps heap.old.cells heap.new.cells }
-    ensures known { IfOk result (λ v. knows heap.new.cells v ≡ true) }
+    requires left { is_array (cell_at heap.old.state.cells a.0) ≡ true }
+    requires right { is_array (cell_at heap.old.state.cells b.0) ≡ true }
+    ensures given { HasGiven result heap.old.state heap.new.state (arrays_joined heap.old.state a.0 b.0) }
+    ensures keeps { Keeps heap.old.state.cells heap.new.state.cells }
+    ensures known { IfOk result (λ v. knows heap.new.state.cells v ≡ true) }
 {
     let both = joined_items(alloc, items(heap, a), items(heap, b))?;
     if both.len() > MOST_ITEMS {
@@ -136,16 +138,25 @@ fn plain(alloc: Global, op: BinaryOp, a: &Value, b: &Value) -> Result<Value, Tro
 }
 
 fn add(alloc: Global, heap: &mut Heap, a: &Value, b: &Value) -> Result<Value, Trouble>
-    requires left { knows heap.old.cells a.now ≡ true }
-    requires right { knows heap.old.cells b.now ≡ true }
-    ensures given { HasGiven result heap.old heap.new (added heap.old a.now b.now) }
-    ensures keeps { Keeps heap.old.cells heap.new.cells }
-    ensures known { IfOk result (λ v. knows heap.new.cells v ≡ true) }
+    requires left { knows heap.old.state.cells a.now ≡ true }
+    requires right { knows heap.old.state.cells b.now ≡ true }
+    ensures given { HasGiven result heap.old.state heap.new.state (added heap.old.state a.now b.now) }
+    ensures keeps { Keeps heap.old.state.cells heap.new.state.cells }
+    ensures known { IfOk result (λ v. knows heap.new.state.cells v ≡ true) }
 {
     match (a, b) {
         (Value::Array(a), Value::Array(b)) => join_arrays(alloc, heap, *a, *b),
         _ => plain(alloc, BinaryOp::Add, a, b),
     }
+}
+
+/// `a % b`, where `a` is no text.
+fn remainder(alloc: Global, a: &Value, b: &Value) -> Result<Value, Trouble>
+    requires { is_text a.now ≡ false }
+    ensures value { (names : Names) (cells : List (Option ACell)) → Answers result (remainder names cells a.now b.now) }
+    ensures known { (cells : List (Option ACell)) → IfOk result (λ v. knows cells v ≡ true) }
+{
+    plain(alloc, BinaryOp::Rem, a, b)
 }
 
 /// The value of a binary operation. `and` and `or` are read elsewhere, and so is a text before `%`.
@@ -156,19 +167,20 @@ pub fn operate(
     a: &Value,
     b: &Value,
 ) -> Result<Value, Trouble>
-    requires left { knows heap.old.cells a.now ≡ true }
-    requires right { knows heap.old.cells b.now ≡ true }
+    requires left { knows heap.old.state.cells a.now ≡ true }
+    requires right { knows heap.old.state.cells b.now ≡ true }
     requires operator { is_value_op op ≡ true }
     requires format { op ≡ Rem → is_text a.now ≡ false }
-    ensures given { HasGiven result heap.old heap.new (operated heap.old op a.now b.now) }
-    ensures keeps { Keeps heap.old.cells heap.new.cells }
-    ensures known { IfOk result (λ v. knows heap.new.cells v ≡ true) }
+    ensures given { (names : Names) → HasGiven result heap.old.state heap.new.state (operated names heap.old.state op a.now b.now) }
+    ensures keeps { Keeps heap.old.state.cells heap.new.state.cells }
+    ensures known { IfOk result (λ v. knows heap.new.state.cells v ≡ true) }
 {
     match op {
         BinaryOp::Within => within(heap, a, b),
         BinaryOp::Eq => answered(equality(heap, a, b)),
         BinaryOp::Ne => denied(equality(heap, a, b)),
         BinaryOp::Add => add(alloc, heap, a, b),
+        BinaryOp::Rem => remainder(alloc, a, b),
         _ => plain(alloc, op, a, b),
     }
 }

@@ -141,7 +141,7 @@ pub fn described(
     heap: &Heap,
     answer: &Result<Value, Trouble>,
 ) -> Result<String, Fail>
-    requires { IfOk answer.now (λ v. knows heap.now.cells v ≡ true) }
+    requires { IfOk answer.now (λ v. knows heap.now.state.cells v ≡ true) }
 {
     match answer {
         Ok(Value::Array(s)) => listed(alloc, items(heap, *s)),
@@ -151,8 +151,8 @@ pub fn described(
 
 /// The keys and the values of a dictionary.
 pub fn keys_and_values(alloc: Global, heap: &mut Heap, d: Serial) -> Result<String, Fail>
-    requires { knows heap.old.cells (Value.Dict d) ≡ true }
-    ensures { Keeps heap.old.cells heap.new.cells }
+    requires { knows heap.old.state.cells (Value.Dict d) ≡ true }
+    ensures { Keeps heap.old.state.cells heap.new.state.cells }
 {
     let keys = dicts::keys(alloc, heap, d);
     let mut text = described(alloc, heap, &keys)?;
@@ -164,8 +164,8 @@ pub fn keys_and_values(alloc: Global, heap: &mut Heap, d: Serial) -> Result<Stri
 
 /// An empty array.
 pub fn add_empty(alloc: Global, heap: &mut Heap, of: Option<ElementTag>) -> Result<Serial, Fail>
-    ensures array { IfOk result (λ s. knows heap.new.cells (Value.Array s) ≡ true) }
-    ensures keeps { Keeps heap.old.cells heap.new.cells }
+    ensures array { IfOk result (λ s. knows heap.new.state.cells (Value.Array s) ≡ true) }
+    ensures keeps { Keeps heap.old.state.cells heap.new.state.cells }
 {
     match new_array(heap, Vec::new(alloc), of) {
         Ok(Value::Array(s)) => Ok(s),
@@ -175,8 +175,8 @@ pub fn add_empty(alloc: Global, heap: &mut Heap, of: Option<ElementTag>) -> Resu
 
 /// An array of whole numbers.
 pub fn add_numbers(alloc: Global, heap: &mut Heap, of: &[i64]) -> Result<Serial, Fail>
-    ensures array { IfOk result (λ s. knows heap.new.cells (Value.Array s) ≡ true) }
-    ensures keeps { Keeps heap.old.cells heap.new.cells }
+    ensures array { IfOk result (λ s. knows heap.new.state.cells (Value.Array s) ≡ true) }
+    ensures keeps { Keeps heap.old.state.cells heap.new.state.cells }
 {
     let s = add_empty(alloc, heap, None)?;
     for n in of {
@@ -187,8 +187,8 @@ pub fn add_numbers(alloc: Global, heap: &mut Heap, of: &[i64]) -> Result<Serial,
 
 /// An empty dictionary.
 pub fn add_dict(alloc: Global, heap: &mut Heap) -> Result<Serial, Fail>
-    ensures dict { IfOk result (λ s. knows heap.new.cells (Value.Dict s) ≡ true) }
-    ensures keeps { Keeps heap.old.cells heap.new.cells }
+    ensures dict { IfOk result (λ s. knows heap.new.state.cells (Value.Dict s) ≡ true) }
+    ensures keeps { Keeps heap.old.state.cells heap.new.state.cells }
 {
     match new_dict(heap, Entries::new(alloc)) {
         Ok(Value::Dict(s)) => Ok(s),
@@ -198,9 +198,9 @@ pub fn add_dict(alloc: Global, heap: &mut Heap) -> Result<Serial, Fail>
 
 /// Gives a dictionary the value of a key.
 fn enter(alloc: Global, heap: &mut Heap, d: Serial, key: i64, to: Value) -> Result<(), Fail>
-    requires dict { knows heap.old.cells (Value.Dict d) ≡ true }
-    requires to { knows heap.old.cells to ≡ true }
-    ensures { Keeps heap.old.cells heap.new.cells }
+    requires dict { knows heap.old.state.cells (Value.Dict d) ≡ true }
+    requires to { knows heap.old.state.cells to ≡ true }
+    ensures { Keeps heap.old.state.cells heap.new.state.cells }
 {
     set_index(alloc, heap, &Value::Dict(d), &Value::Int(key), to)?;
     Ok(())
@@ -208,8 +208,8 @@ fn enter(alloc: Global, heap: &mut Heap, d: Serial, key: i64, to: Value) -> Resu
 
 /// A dictionary of whole numbers.
 pub fn add_entries(alloc: Global, heap: &mut Heap, of: &[(i64, i64)]) -> Result<Serial, Fail>
-    ensures dict { IfOk result (λ s. knows heap.new.cells (Value.Dict s) ≡ true) }
-    ensures keeps { Keeps heap.old.cells heap.new.cells }
+    ensures dict { IfOk result (λ s. knows heap.new.state.cells (Value.Dict s) ≡ true) }
+    ensures keeps { Keeps heap.old.state.cells heap.new.state.cells }
 {
     let d = add_dict(alloc, heap)?;
     for (key, n) in of {
@@ -237,8 +237,8 @@ fn largest_entries(alloc: Global) -> Result<Entries, Fail>
 
 /// A dictionary of 1,048,576 entries.
 pub fn add_largest(alloc: Global, heap: &mut Heap) -> Result<Serial, Fail>
-    ensures dict { IfOk result (λ s. knows heap.new.cells (Value.Dict s) ≡ true) }
-    ensures keeps { Keeps heap.old.cells heap.new.cells }
+    ensures dict { IfOk result (λ s. knows heap.new.state.cells (Value.Dict s) ≡ true) }
+    ensures keeps { Keeps heap.old.state.cells heap.new.state.cells }
 {
     let entries = largest_entries(alloc)?;
     match new_dict(heap, entries) {
@@ -249,9 +249,9 @@ pub fn add_largest(alloc: Global, heap: &mut Heap) -> Result<Serial, Fail>
 
 /// An array of one item.
 fn add_outer(alloc: Global, heap: &mut Heap, inner: &Value) -> Result<Serial, Fail>
-    requires { knows heap.old.cells inner.now ≡ true }
-    ensures array { IfOk result (λ s. knows heap.new.cells (Value.Array s) ≡ true) }
-    ensures keeps { Keeps heap.old.cells heap.new.cells }
+    requires { knows heap.old.state.cells inner.now ≡ true }
+    ensures array { IfOk result (λ s. knows heap.new.state.cells (Value.Array s) ≡ true) }
+    ensures keeps { Keeps heap.old.state.cells heap.new.state.cells }
 {
     let outer = add_empty(alloc, heap, None)?;
     arrays::append(alloc, heap, outer, inner)?;
@@ -259,8 +259,8 @@ fn add_outer(alloc: Global, heap: &mut Heap, inner: &Value) -> Result<Serial, Fa
 }
 
 fn add_nested(alloc: Global, heap: &mut Heap, depth: usize) -> Result<Serial, Fail>
-    ensures array { IfOk result (λ s. knows heap.new.cells (Value.Array s) ≡ true) }
-    ensures keeps { Keeps heap.old.cells heap.new.cells }
+    ensures array { IfOk result (λ s. knows heap.new.state.cells (Value.Array s) ≡ true) }
+    ensures keeps { Keeps heap.old.state.cells heap.new.state.cells }
 {
     let mut s = add_numbers(alloc, heap, &[7])?;
     for _ in 1..depth {
@@ -271,9 +271,9 @@ fn add_nested(alloc: Global, heap: &mut Heap, depth: usize) -> Result<Serial, Fa
 
 /// A dictionary of one entry.
 fn add_outer_dict(alloc: Global, heap: &mut Heap, inner: Value) -> Result<Serial, Fail>
-    requires { knows heap.old.cells inner ≡ true }
-    ensures dict { IfOk result (λ s. knows heap.new.cells (Value.Dict s) ≡ true) }
-    ensures keeps { Keeps heap.old.cells heap.new.cells }
+    requires { knows heap.old.state.cells inner ≡ true }
+    ensures dict { IfOk result (λ s. knows heap.new.state.cells (Value.Dict s) ≡ true) }
+    ensures keeps { Keeps heap.old.state.cells heap.new.state.cells }
 {
     let outer = add_dict(alloc, heap)?;
     enter(alloc, heap, outer, 1, inner)?;
@@ -281,8 +281,8 @@ fn add_outer_dict(alloc: Global, heap: &mut Heap, inner: Value) -> Result<Serial
 }
 
 fn add_nested_dicts(alloc: Global, heap: &mut Heap, depth: usize) -> Result<Serial, Fail>
-    ensures dict { IfOk result (λ s. knows heap.new.cells (Value.Dict s) ≡ true) }
-    ensures keeps { Keeps heap.old.cells heap.new.cells }
+    ensures dict { IfOk result (λ s. knows heap.new.state.cells (Value.Dict s) ≡ true) }
+    ensures keeps { Keeps heap.old.state.cells heap.new.state.cells }
 {
     let mut d = add_entries(alloc, heap, &[(1, 7)])?;
     for _ in 1..depth {
@@ -293,8 +293,8 @@ fn add_nested_dicts(alloc: Global, heap: &mut Heap, depth: usize) -> Result<Seri
 
 /// Doubles an array as often.
 fn double(alloc: Global, heap: &mut Heap, s: Serial, times: usize) -> Result<(), Fail>
-    requires { knows heap.old.cells (Value.Array s) ≡ true }
-    ensures { Keeps heap.old.cells heap.new.cells }
+    requires { knows heap.old.state.cells (Value.Array s) ≡ true }
+    ensures { Keeps heap.old.state.cells heap.new.state.cells }
 {
     for _ in 0..times {
         arrays::append_array(alloc, heap, s, s)?;
@@ -304,8 +304,8 @@ fn double(alloc: Global, heap: &mut Heap, s: Serial, times: usize) -> Result<(),
 
 /// An array of 1,048,576 items.
 pub fn add_longest(alloc: Global, heap: &mut Heap) -> Result<Serial, Fail>
-    ensures array { IfOk result (λ s. knows heap.new.cells (Value.Array s) ≡ true) }
-    ensures keeps { Keeps heap.old.cells heap.new.cells }
+    ensures array { IfOk result (λ s. knows heap.new.state.cells (Value.Array s) ≡ true) }
+    ensures keeps { Keeps heap.old.state.cells heap.new.state.cells }
 {
     let s = add_numbers(alloc, heap, &[7])?;
     double(alloc, heap, s, 20)?;
@@ -313,24 +313,24 @@ pub fn add_longest(alloc: Global, heap: &mut Heap) -> Result<Serial, Fail>
 }
 
 fn add_longest_inside(alloc: Global, heap: &mut Heap) -> Result<Serial, Fail>
-    ensures array { IfOk result (λ s. knows heap.new.cells (Value.Array s) ≡ true) }
-    ensures keeps { Keeps heap.old.cells heap.new.cells }
+    ensures array { IfOk result (λ s. knows heap.new.state.cells (Value.Array s) ≡ true) }
+    ensures keeps { Keeps heap.old.state.cells heap.new.state.cells }
 {
     let s = add_longest(alloc, heap)?;
     add_outer(alloc, heap, &Value::Array(s))
 }
 
 fn add_longest_in_dict(alloc: Global, heap: &mut Heap) -> Result<Serial, Fail>
-    ensures dict { IfOk result (λ s. knows heap.new.cells (Value.Dict s) ≡ true) }
-    ensures keeps { Keeps heap.old.cells heap.new.cells }
+    ensures dict { IfOk result (λ s. knows heap.new.state.cells (Value.Dict s) ≡ true) }
+    ensures keeps { Keeps heap.old.state.cells heap.new.state.cells }
 {
     let s = add_longest(alloc, heap)?;
     add_outer_dict(alloc, heap, Value::Array(s))
 }
 
 fn add_cycle(alloc: Global, heap: &mut Heap) -> Result<Serial, Fail>
-    ensures array { IfOk result (λ s. knows heap.new.cells (Value.Array s) ≡ true) }
-    ensures keeps { Keeps heap.old.cells heap.new.cells }
+    ensures array { IfOk result (λ s. knows heap.new.state.cells (Value.Array s) ≡ true) }
+    ensures keeps { Keeps heap.old.state.cells heap.new.state.cells }
 {
     let s = add_empty(alloc, heap, None)?;
     arrays::append(alloc, heap, s, &Value::Array(s))?;
@@ -342,8 +342,8 @@ fn long_text(alloc: Global) -> Result<Str, Fail> {
 }
 
 fn add_long_texts(alloc: Global, heap: &mut Heap, count: usize) -> Result<Serial, Fail>
-    ensures array { IfOk result (λ s. knows heap.new.cells (Value.Array s) ≡ true) }
-    ensures keeps { Keeps heap.old.cells heap.new.cells }
+    ensures array { IfOk result (λ s. knows heap.new.state.cells (Value.Array s) ≡ true) }
+    ensures keeps { Keeps heap.old.state.cells heap.new.state.cells }
 {
     let s = add_empty(alloc, heap, None)?;
     let text = long_text(alloc)?;
@@ -354,8 +354,8 @@ fn add_long_texts(alloc: Global, heap: &mut Heap, count: usize) -> Result<Serial
 }
 
 fn made_array(alloc: Global, heap: &mut Heap, sample: Sample) -> Result<Serial, Fail>
-    ensures array { IfOk result (λ s. knows heap.new.cells (Value.Array s) ≡ true) }
-    ensures keeps { Keeps heap.old.cells heap.new.cells }
+    ensures array { IfOk result (λ s. knows heap.new.state.cells (Value.Array s) ≡ true) }
+    ensures keeps { Keeps heap.old.state.cells heap.new.state.cells }
 {
     match sample {
         Sample::Numbers(of) => add_numbers(alloc, heap, of),
@@ -370,8 +370,8 @@ fn made_array(alloc: Global, heap: &mut Heap, sample: Sample) -> Result<Serial, 
 }
 
 fn made_dict(alloc: Global, heap: &mut Heap, sample: Sample) -> Result<Serial, Fail>
-    ensures dict { IfOk result (λ s. knows heap.new.cells (Value.Dict s) ≡ true) }
-    ensures keeps { Keeps heap.old.cells heap.new.cells }
+    ensures dict { IfOk result (λ s. knows heap.new.state.cells (Value.Dict s) ≡ true) }
+    ensures keeps { Keeps heap.old.state.cells heap.new.state.cells }
 {
     match sample {
         Sample::Entries(of) => add_entries(alloc, heap, of),
@@ -383,10 +383,10 @@ fn made_dict(alloc: Global, heap: &mut Heap, sample: Sample) -> Result<Serial, F
 
 /// Puts an object of two classes of scripts into a heap that has a cell.
 fn new_object(alloc: Global, heap: &mut Heap, class: u32, base: u32) -> Result<Serial, Fail>
-    requires some { 0 < length heap.old.cells }
-    ensures known { IfOk result (λ s. knows heap.new.cells (Value.Object s) ≡ true) }
-    ensures uncounted { IfOk result (λ s. is_counted (cell_at heap.new.cells s.0) ≡ false) }
-    ensures keeps { Keeps heap.old.cells heap.new.cells }
+    requires some { 0 < length heap.old.state.cells }
+    ensures known { IfOk result (λ s. knows heap.new.state.cells (Value.Object s) ≡ true) }
+    ensures uncounted { IfOk result (λ s. is_counted (cell_at heap.new.state.cells s.0) ≡ false) }
+    ensures keeps { Keeps heap.old.state.cells heap.new.state.cells }
 {
     let cell = Cell::Object(ObjectCell {
         lineage: lineage(alloc, class, base)?,
@@ -415,9 +415,9 @@ fn lineage(alloc: Global, class: u32, base: u32) -> Result<Lineage, Fail>
 
 /// An object without fields.
 pub fn add_object(alloc: Global, heap: &mut Heap, class: u32, base: u32) -> Result<Serial, Fail>
-    ensures known { IfOk result (λ s. knows heap.new.cells (Value.Object s) ≡ true) }
-    ensures uncounted { IfOk result (λ s. is_counted (cell_at heap.new.cells s.0) ≡ false) }
-    ensures keeps { Keeps heap.old.cells heap.new.cells }
+    ensures known { IfOk result (λ s. knows heap.new.state.cells (Value.Object s) ≡ true) }
+    ensures uncounted { IfOk result (λ s. is_counted (cell_at heap.new.state.cells s.0) ≡ false) }
+    ensures keeps { Keeps heap.old.state.cells heap.new.state.cells }
 {
     add_empty(alloc, heap, None)?;
     new_object(alloc, heap, class, base)
@@ -425,7 +425,7 @@ pub fn add_object(alloc: Global, heap: &mut Heap, class: u32, base: u32) -> Resu
 
 /// An object that has gone.
 pub fn add_gone(alloc: Global, heap: &mut Heap, class: u32, base: u32) -> Result<Serial, Fail>
-    ensures { IfOk result (λ s. knows heap.new.cells (Value.Object s) ≡ true) }
+    ensures { IfOk result (λ s. knows heap.new.state.cells (Value.Object s) ≡ true) }
 {
     let s = add_object(alloc, heap, class, base)?;
     heap.free_node(s)?;
@@ -447,8 +447,8 @@ fn made_around(alloc: Global, sample: Sample, s: Serial) -> Result<Value, Fail>
 }
 
 fn made_object(alloc: Global, heap: &mut Heap, sample: Sample) -> Result<Value, Fail>
-    ensures known { IfOk result (λ v. knows heap.new.cells v ≡ true) }
-    ensures keeps { Keeps heap.old.cells heap.new.cells }
+    ensures known { IfOk result (λ v. knows heap.new.state.cells v ≡ true) }
+    ensures keeps { Keeps heap.old.state.cells heap.new.state.cells }
 {
     let (class, base) = match sample {
         Sample::Object(class, base) => (class, base),
@@ -460,8 +460,8 @@ fn made_object(alloc: Global, heap: &mut Heap, sample: Sample) -> Result<Value, 
 
 /// Makes it.
 pub fn made(alloc: Global, heap: &mut Heap, sample: Sample) -> Result<Value, Fail>
-    ensures known { IfOk result (λ v. knows heap.new.cells v ≡ true) }
-    ensures keeps { Keeps heap.old.cells heap.new.cells }
+    ensures known { IfOk result (λ v. knows heap.new.state.cells v ≡ true) }
+    ensures keeps { Keeps heap.old.state.cells heap.new.state.cells }
 {
     match sample {
         Sample::Null => Ok(Value::Null),

@@ -92,11 +92,11 @@ fn texts_in_order(alloc: Global, values: &[Value]) -> Result<Vec<Value>, AllocEr
 }
 
 fn sort_numbers(alloc: Global, heap: &mut Heap, of: Serial) -> Result<Value, Trouble>
-    requires array { is_array (cell_at heap.old.cells of.0) ≡ true }
-    requires numbers { list_all is_number (items_at heap.old of.0) ≡ true }
-    ensures given { HasGiven result heap.old heap.new (put_in_order heap.old of.0 number_before) }
-    ensures keeps { Keeps heap.old.cells heap.new.cells }
-    ensures known { IfOk result (λ v. knows heap.new.cells v ≡ true) }
+    requires array { is_array (cell_at heap.old.state.cells of.0) ≡ true }
+    requires numbers { list_all is_number (items_at heap.old.state of.0) ≡ true }
+    ensures given { HasGiven result heap.old.state heap.new.state (put_in_order heap.old.state of.0 number_before) }
+    ensures keeps { Keeps heap.old.state.cells heap.new.state.cells }
+    ensures known { IfOk result (λ v. knows heap.new.state.cells v ≡ true) }
 {
     let list = numbers_in_order(alloc, items(heap, of))?;
     let len = items(heap, of).len();
@@ -104,11 +104,11 @@ fn sort_numbers(alloc: Global, heap: &mut Heap, of: Serial) -> Result<Value, Tro
 }
 
 fn sort_texts(alloc: Global, heap: &mut Heap, of: Serial) -> Result<Value, Trouble>
-    requires array { is_array (cell_at heap.old.cells of.0) ≡ true }
-    requires texts { list_all is_text (items_at heap.old of.0) ≡ true }
-    ensures given { HasGiven result heap.old heap.new (put_in_order heap.old of.0 text_before) }
-    ensures keeps { Keeps heap.old.cells heap.new.cells }
-    ensures known { IfOk result (λ v. knows heap.new.cells v ≡ true) }
+    requires array { is_array (cell_at heap.old.state.cells of.0) ≡ true }
+    requires texts { list_all is_text (items_at heap.old.state of.0) ≡ true }
+    ensures given { HasGiven result heap.old.state heap.new.state (put_in_order heap.old.state of.0 text_before) }
+    ensures keeps { Keeps heap.old.state.cells heap.new.state.cells }
+    ensures known { IfOk result (λ v. knows heap.new.state.cells v ≡ true) }
 {
     let list = texts_in_order(alloc, items(heap, of))?;
     let len = items(heap, of).len();
@@ -117,10 +117,10 @@ fn sort_texts(alloc: Global, heap: &mut Heap, of: Serial) -> Result<Value, Troub
 
 /// Puts the items in order, where all are whole numbers or all are texts.
 pub(crate) fn sort(alloc: Global, heap: &mut Heap, of: Serial) -> Result<Value, Trouble>
-    requires { is_array (cell_at heap.old.cells of.0) ≡ true }
-    ensures given { HasGiven result heap.old heap.new (sort_of heap.old of.0) }
-    ensures keeps { Keeps heap.old.cells heap.new.cells }
-    ensures known { IfOk result (λ v. knows heap.new.cells v ≡ true) }
+    requires { is_array (cell_at heap.old.state.cells of.0) ≡ true }
+    ensures given { HasGiven result heap.old.state heap.new.state (sort_of heap.old.state of.0) }
+    ensures keeps { Keeps heap.old.state.cells heap.new.state.cells }
+    ensures known { IfOk result (λ v. knows heap.new.state.cells v ≡ true) }
 {
     if all_numbers(items(heap, of)) {
         return sort_numbers(alloc, heap, of);

@@ -57,9 +57,9 @@ fn operand(call: &Call) -> Sample {
 }
 
 fn append_items(alloc: Global, heap: &mut Heap, s: Serial, other: &Value) -> Result<Value, Trouble>
-    requires array { knows heap.old.cells (Value.Array s) ≡ true }
-    requires other { knows heap.old.cells other.now ≡ true }
-    ensures { Keeps heap.old.cells heap.new.cells }
+    requires array { knows heap.old.state.cells (Value.Array s) ≡ true }
+    requires other { knows heap.old.state.cells other.now ≡ true }
+    ensures { Keeps heap.old.state.cells heap.new.state.cells }
 {
     match other {
         Value::Array(other) => arrays::append_array(alloc, heap, s, *other),
@@ -68,9 +68,9 @@ fn append_items(alloc: Global, heap: &mut Heap, s: Serial, other: &Value) -> Res
 }
 
 fn write(alloc: Global, heap: &mut Heap, s: Serial, index: i64, v: &Value) -> Result<Value, Trouble>
-    requires array { knows heap.old.cells (Value.Array s) ≡ true }
-    requires value { knows heap.old.cells v.now ≡ true }
-    ensures { Keeps heap.old.cells heap.new.cells }
+    requires array { knows heap.old.state.cells (Value.Array s) ≡ true }
+    requires value { knows heap.old.state.cells v.now ≡ true }
+    ensures { Keeps heap.old.state.cells heap.new.state.cells }
 {
     set_index(
         alloc,
@@ -89,9 +89,9 @@ fn put_call(
     call: &Call,
     v: &Value,
 ) -> Result<Value, Trouble>
-    requires array { knows heap.old.cells (Value.Array s) ≡ true }
-    requires value { knows heap.old.cells v.now ≡ true }
-    ensures { Keeps heap.old.cells heap.new.cells }
+    requires array { knows heap.old.state.cells (Value.Array s) ≡ true }
+    requires value { knows heap.old.state.cells v.now ≡ true }
+    ensures { Keeps heap.old.state.cells heap.new.state.cells }
 {
     match call {
         Call::Append(_) => arrays::append(alloc, heap, s, v),
@@ -112,9 +112,9 @@ fn whole_call(
     call: &Call,
     v: &Value,
 ) -> Result<Value, Trouble>
-    requires array { knows heap.old.cells (Value.Array s) ≡ true }
-    requires value { knows heap.old.cells v.now ≡ true }
-    ensures { Keeps heap.old.cells heap.new.cells }
+    requires array { knows heap.old.state.cells (Value.Array s) ≡ true }
+    requires value { knows heap.old.state.cells v.now ≡ true }
+    ensures { Keeps heap.old.state.cells heap.new.state.cells }
 {
     match call {
         Call::PopBack => arrays::pop_back(alloc, heap, s),
@@ -129,8 +129,8 @@ fn whole_call(
 }
 
 fn look(heap: &Heap, s: Serial, call: &Call, v: &Value) -> Result<Value, Trouble>
-    requires array { knows heap.now.cells (Value.Array s) ≡ true }
-    requires value { knows heap.now.cells v.now ≡ true }
+    requires array { knows heap.now.state.cells (Value.Array s) ≡ true }
+    requires value { knows heap.now.state.cells v.now ≡ true }
 {
     match call {
         Call::Size => Ok(arrays::size(heap, s)?),
@@ -159,9 +159,9 @@ fn any_call(
     call: &Call,
     v: &Value,
 ) -> Result<Value, Trouble>
-    requires array { knows heap.old.cells (Value.Array s) ≡ true }
-    requires value { knows heap.old.cells v.now ≡ true }
-    ensures { Keeps heap.old.cells heap.new.cells }
+    requires array { knows heap.old.state.cells (Value.Array s) ≡ true }
+    requires value { knows heap.old.state.cells v.now ≡ true }
+    ensures { Keeps heap.old.state.cells heap.new.state.cells }
 {
     if looks(call) {
         look(heap, s, call, v)
@@ -172,8 +172,8 @@ fn any_call(
 
 /// Makes a call, and tells the answer in words.
 fn answer_of(alloc: Global, heap: &mut Heap, s: Serial, call: &Call) -> Result<String, Fail>
-    requires { knows heap.old.cells (Value.Array s) ≡ true }
-    ensures { Keeps heap.old.cells heap.new.cells }
+    requires { knows heap.old.state.cells (Value.Array s) ≡ true }
+    ensures { Keeps heap.old.state.cells heap.new.state.cells }
 {
     let v = made(alloc, heap, operand(call))?;
     let answer = any_call(alloc, heap, s, call, &v);
@@ -186,8 +186,8 @@ fn check(
     s: Serial,
     case: &(Call, &str, &str),
 ) -> Result<(), Fail>
-    requires { knows heap.old.cells (Value.Array s) ≡ true }
-    ensures { Keeps heap.old.cells heap.new.cells }
+    requires { knows heap.old.state.cells (Value.Array s) ≡ true }
+    ensures { Keeps heap.old.state.cells heap.new.state.cells }
 {
     let answer = answer_of(rt.alloc(), heap, s, &case.0)?;
     assert_eq!(rt; answer.as_str(), case.1);
@@ -202,8 +202,8 @@ fn check_all(
     s: Serial,
     cases: &[(Call, &str, &str)],
 ) -> Result<(), Fail>
-    requires { knows heap.old.cells (Value.Array s) ≡ true }
-    ensures { Keeps heap.old.cells heap.new.cells }
+    requires { knows heap.old.state.cells (Value.Array s) ≡ true }
+    ensures { Keeps heap.old.state.cells heap.new.state.cells }
 {
     for case in cases {
         check(rt, heap, s, case)?;
@@ -218,8 +218,8 @@ fn check_answers(
     s: Serial,
     cases: &[(Call, &str)],
 ) -> Result<(), Fail>
-    requires { knows heap.old.cells (Value.Array s) ≡ true }
-    ensures { Keeps heap.old.cells heap.new.cells }
+    requires { knows heap.old.state.cells (Value.Array s) ≡ true }
+    ensures { Keeps heap.old.state.cells heap.new.state.cells }
 {
     for case in cases {
         let answer = answer_of(rt.alloc(), heap, s, &case.0)?;
@@ -310,9 +310,9 @@ enum CopyCall {
 }
 
 fn copied(alloc: Global, heap: &mut Heap, s: Serial, call: &CopyCall) -> Result<Value, Trouble>
-    requires { knows heap.old.cells (Value.Array s) ≡ true }
-    ensures keeps { Keeps heap.old.cells heap.new.cells }
-    ensures known { IfOk result (λ v. knows heap.new.cells v ≡ true) }
+    requires { knows heap.old.state.cells (Value.Array s) ≡ true }
+    ensures keeps { Keeps heap.old.state.cells heap.new.state.cells }
+    ensures known { IfOk result (λ v. knows heap.new.state.cells v ≡ true) }
 {
     match call {
         CopyCall::Slice(from, to) => arrays::slice(alloc, heap, s, *from, *to),
@@ -327,8 +327,8 @@ fn check_copies(
     s: Serial,
     cases: &[(CopyCall, &str)],
 ) -> Result<(), Fail>
-    requires { knows heap.old.cells (Value.Array s) ≡ true }
-    ensures { Keeps heap.old.cells heap.new.cells }
+    requires { knows heap.old.state.cells (Value.Array s) ≡ true }
+    ensures { Keeps heap.old.state.cells heap.new.state.cells }
 {
     for case in cases {
         let answer = copied(rt.alloc(), heap, s, &case.0);
@@ -360,9 +360,9 @@ fn parts_of_an_array(rt: HostRuntime) -> Result<(), Fail> {
 
 /// The array that a call makes of one.
 fn add_copy(alloc: Global, heap: &mut Heap, s: Serial, call: &CopyCall) -> Result<Serial, Fail>
-    requires { knows heap.old.cells (Value.Array s) ≡ true }
-    ensures array { IfOk result (λ t. knows heap.new.cells (Value.Array t) ≡ true) }
-    ensures keeps { Keeps heap.old.cells heap.new.cells }
+    requires { knows heap.old.state.cells (Value.Array s) ≡ true }
+    ensures array { IfOk result (λ t. knows heap.new.state.cells (Value.Array t) ≡ true) }
+    ensures keeps { Keeps heap.old.state.cells heap.new.state.cells }
 {
     match copied(alloc, heap, s, call) {
         Ok(Value::Array(t)) => Ok(t),
@@ -461,7 +461,7 @@ fn an_object_that_has_gone_is_of_no_class(rt: HostRuntime) -> Result<(), Fail> {
 
 /// Appends a value to a new array of the objects of a class.
 fn append_to_typed(alloc: Global, heap: &mut Heap, v: &Value) -> Result<String, Fail>
-    requires { knows heap.old.cells v.now ≡ true }
+    requires { knows heap.old.state.cells v.now ≡ true }
 {
     let s = add_empty(alloc, heap, Some(ElementTag::Class(class(1))))?;
     shown(alloc, &arrays::append(alloc, heap, s, v))
@@ -609,6 +609,8 @@ fn a_full_heap(rt: HostRuntime) -> Result<(), Fail> {
         (Call::Append(Sample::Number(1)), "null", "long 1 "),
         (Call::Fill(Sample::LongText), "HeapFull", "long 1 "),
         (Call::Write(1, Sample::LongText), "HeapFull", "long 1 "),
+        (Call::PopBack, "1", "long "),
+        (Call::Append(Sample::Number(1)), "null", "long 1 "),
     ];
     check_all(&rt, &mut heap, s, &cases)?;
     let copies = [

@@ -8,8 +8,8 @@ use variant_values::values::Value;
 
 /// The truth of a value. False are null, false, 0, the empty text, an empty container, and an object that has gone.
 pub fn truth(heap: &Heap, v: &Value) -> bool
-    requires { knows heap.now.cells v.now ≡ true }
-    ensures { result ≡ is_true heap.now.cells v.now }
+    requires { knows heap.now.state.cells v.now ≡ true }
+    ensures { result ≡ is_true heap.now.state.cells v.now }
 {
     match v {
         Value::Null => false,

@@ -36,9 +36,9 @@ fn operation(
     op: BinaryOp,
     b: &Value,
 ) -> Result<String, Fail>
-    requires left { knows heap.old.cells a.now ≡ true }
-    requires right { knows heap.old.cells b.now ≡ true }
-    ensures { Keeps heap.old.cells heap.new.cells }
+    requires left { knows heap.old.state.cells a.now ≡ true }
+    requires right { knows heap.old.state.cells b.now ≡ true }
+    ensures { Keeps heap.old.state.cells heap.new.state.cells }
 {
     if !is_operator_of_values(op) {
         return Err(Fail::from("another operator"));

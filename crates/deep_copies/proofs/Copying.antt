@@ -15,8 +15,8 @@ use Rattle.variant_values.specs.Copies.{copied, copied_items, copied_entries}
 use Rattle.variant_values.specs.Changes.{Keeps}
 use Rattle.variant_values.specs.Heaps.{Heap, cell_at, entries_of, items_of, knows, knows_key, KnowsAll, KnowsEntries}
 use Rattle.variant_values.specs.Keys.{same_key, with_entry, HasKeysOnce}
-use Rattle.variant_values.specs.Places.{weight}
-use Rattle.deep_copies.proofs.Growth.{Grows, grown_cell, grown_weight, items_grown, entries_grown, copied_grown}
+use Rattle.deep_copies.specs.CopyWeights.{Fits}
+use Rattle.deep_copies.proofs.Growth.{Grows, fits_before, grown_cell, items_grown, entries_grown, copied_grown}
 
 -- what is copied so far, with the rest copied, is the whole
 abbrev pub Copying : (Heap → Value → Value × Heap) → Heap → List Value → List Value → List Value × Heap → Type 0
@@ -26,10 +26,10 @@ abbrev pub CopyingEntries : (Heap → Value → Value × Heap) → Heap → List
 CopyingEntries copy h done rest all = (done ++ (copied_entries copy h rest).0, (copied_entries copy h rest).1) ≡ all
 
 module _ (copy : Heap → Value → Value × Heap) (grows : Grows copy) (h : Heap) where
-  item_fits_at : (done vs : List Value) (v : Value) (all : List Value × Heap) → Copying copy h done (v ∷ vs) all → weight all.1.cells ≤ 67108864 → weight (copy h v).1.cells ≤ 67108864
-  item_fits_at done vs v all whole fits = omega (arith, grown_weight (copy h v).1.cells (copied_items copy (copy h v).1 vs).1.cells (items_grown copy grows (copy h v).1 vs), ap (λ (c : List Value × Heap). weight c.1.cells) whole, fits)
+  item_fits_at : (done vs : List Value) (v : Value) (all : List Value × Heap) → Copying copy h done (v ∷ vs) all → Fits all.1.cells → Fits (copy h v).1.cells
+  item_fits_at done vs v all whole fits = fits_before (copy h v).1.cells (copied_items copy (copy h v).1 vs).1.cells (items_grown copy grows (copy h v).1 vs) (subst (λ (c : List Value × Heap). Fits c.1.cells) (sym whole) fits)
 
-  pub item_fits : (done vs : List Value) (i : ℕ) (v : Value) (all : List Value × Heap) → slice_get vs i ≡ Some v → Copying copy h done (drop i vs) all → weight all.1.cells ≤ 67108864 → weight (copy h v).1.cells ≤ 67108864
+  pub item_fits : (done vs : List Value) (i : ℕ) (v : Value) (all : List Value × Heap) → slice_get vs i ≡ Some v → Copying copy h done (drop i vs) all → Fits all.1.cells → Fits (copy h v).1.cells
   item_fits done vs i v all at whole fits = item_fits_at done (drop (i + 1) vs) v all (subst (λ (rest : List Value). Copying copy h done rest all) (drop-next vs i v at) whole) fits
 
   item_next_at : (new : Heap) (done vs : List Value) (v w : Value) (all : List Value × Heap) → (w, new) ≡ copy h v → Copying copy h done (v ∷ vs) all → Copying copy new (done ++ w ∷ []) vs all
@@ -42,10 +42,10 @@ module _ (copy : Heap → Value → Value × Heap) (grows : Grows copy) (h : Hea
   pub item_next : (new : Heap) (done vs : List Value) (i : ℕ) (v w : Value) (all : List Value × Heap) → slice_get vs i ≡ Some v → (w, new) ≡ copy h v → Copying copy h done (drop i vs) all → Copying copy new (done ++ w ∷ []) (drop (i + 1) vs) all
   item_next new done vs i v w all at one whole = item_next_at new done (drop (i + 1) vs) v w all one (subst (λ (rest : List Value). Copying copy h done rest all) (drop-next vs i v at) whole)
 
-  entry_fits_at : (done es : List (Key × Value)) (e : Key × Value) (all : List (Key × Value) × Heap) → CopyingEntries copy h done (e ∷ es) all → weight all.1.cells ≤ 67108864 → weight (copy h e.1).1.cells ≤ 67108864
-  entry_fits_at done es e all whole fits = omega (arith, grown_weight (copy h e.1).1.cells (copied_entries copy (copy h e.1).1 es).1.cells (entries_grown copy grows (copy h e.1).1 es), ap (λ (c : List (Key × Value) × Heap). weight c.1.cells) whole, fits)
+  entry_fits_at : (done es : List (Key × Value)) (e : Key × Value) (all : List (Key × Value) × Heap) → CopyingEntries copy h done (e ∷ es) all → Fits all.1.cells → Fits (copy h e.1).1.cells
+  entry_fits_at done es e all whole fits = fits_before (copy h e.1).1.cells (copied_entries copy (copy h e.1).1 es).1.cells (entries_grown copy grows (copy h e.1).1 es) (subst (λ (c : List (Key × Value) × Heap). Fits c.1.cells) (sym whole) fits)
 
-  pub entry_fits : (done es : List (Key × Value)) (i : ℕ) (k : Key) (v : Value) (all : List (Key × Value) × Heap) → slice_get es i ≡ Some (k, v) → CopyingEntries copy h done (drop i es) all → weight all.1.cells ≤ 67108864 → weight (copy h v).1.cells ≤ 67108864
+  pub entry_fits : (done es : List (Key × Value)) (i : ℕ) (k : Key) (v : Value) (all : List (Key × Value) × Heap) → slice_get es i ≡ Some (k, v) → CopyingEntries copy h done (drop i es) all → Fits all.1.cells → Fits (copy h v).1.cells
   entry_fits done es i k v all at whole fits = entry_fits_at done (drop (i + 1) es) (k, v) all (subst (λ (rest : List (Key × Value)). CopyingEntries copy h done rest all) (drop-next es i (k, v) at) whole) fits
 
   entry_next_at : (new : Heap) (done es : List (Key × Value)) (e : Key × Value) (w : Value) (all : List (Key × Value) × Heap) → (w, new) ≡ copy h e.1 → CopyingEntries copy h done (e ∷ es) all → CopyingEntries copy new (done ++ (e.0, w) ∷ []) es all

@@ -1,47 +1,44 @@
 -- The cells that a copy makes stand behind those that were there.
 use Rattle.std.proofs.Common.{◌≡◌, ℕ, zero, suc, ◌<◌, ◌≤◌, ◌∙◌, ap, sym, subst, refl, List, [], ◌∷◌, ◌++◌, length, Option, Some, None, arith}
 use Rattle.std.proofs.lemmas.List.{append_assoc, append-nil, length-append, get_or_append_left}
-use Rattle.std.proofs.lemmas.List.Sums.{sum_by-append, sum_by-cons}
+use Rattle.std.proofs.lemmas.List.Sums.{sum_by-append}
 use Rattle.variant_values.specs.declared.cells.Cell.{Cell}
-use Rattle.variant_values.specs.declared.cells.Cell.TheVariants.{Array as ArrayCell, Dict as DictCell, Object as ObjectCell}
+use Rattle.variant_values.specs.declared.cells.Cell.TheVariants.{Array as ArrayCell, Dict as DictCell}
 use Rattle.variant_values.specs.declared.values.Key.{Key}
 use Rattle.variant_values.specs.declared.values.Value.{Value}
 use Rattle.variant_values.specs.declared.values.Value.TheVariants.{Array, Dict}
 use Rattle.variant_values.specs.Copies.{copied, copied_items, copied_entries}
 use Rattle.variant_values.specs.ElementTypes.{element_of}
 use Rattle.variant_values.specs.Heaps.{Heap, cell_at, items_of, entries_of}
-use Rattle.variant_values.specs.Places.{cell_weight, slot_weight, weight}
-use Rattle.deep_copies.specs.CopyWeights.{array_copy, dict_copy}
+use Rattle.variant_values.specs.Places.{slot_weight, weight}
+use Rattle.deep_copies.specs.CopyWeights.{array_copy, dict_copy, Fits}
 use Rattle.deep_copies.proofs.Levels.{by_kind, copied-zero, copied-suc}
 
 pub record IsGrown (old new : List (Option Cell)) : Type 0 where
   pub more : List (Option Cell)
   pub cells : new ≡ old ++ more
-  pub heavy : length more ≤ weight more
 
 pub grown_none : (a : List (Option Cell)) → IsGrown a a
-grown_none a = record { more = []; cells = sym (append-nil a); heavy = omega arith }
+grown_none a = record { more = []; cells = sym (append-nil a) }
 
 pub grown_then : (a b c : List (Option Cell)) → IsGrown a b → IsGrown b c → IsGrown a c
 grown_then a b c f g = record {
   more = f.more ++ g.more;
   cells = g.cells ∙ ap (λ (x : List (Option Cell)). x ++ g.more) f.cells ∙ append_assoc a f.more g.more;
-  heavy = omega (arith, f.heavy, g.heavy, length-append f.more g.more, sum_by-append slot_weight f.more g.more);
 }
 
-cell_heavy : (c : Cell) → 1 ≤ cell_weight c
-cell_heavy (ArrayCell vs of) = omega arith
-cell_heavy (DictCell es) = omega arith
-cell_heavy (ObjectCell o) = omega arith
-
 pub grown_new : (a : List (Option Cell)) (c : Cell) → IsGrown a (a ++ Some c ∷ [])
-grown_new a c = record { more = Some c ∷ []; cells = refl; heavy = omega (arith, cell_heavy c, sum_by-cons slot_weight (Some c) []) }
+grown_new a c = record { more = Some c ∷ []; cells = refl }
 
 pub grown_weight : (a b : List (Option Cell)) → IsGrown a b → weight a ≤ weight b
 grown_weight a b g = omega (arith, ap weight g.cells, sum_by-append slot_weight a g.more)
 
 pub grown_length : (a b : List (Option Cell)) → IsGrown a b → length a ≤ length b
 grown_length a b g = omega (arith, ap length g.cells, length-append a g.more)
+
+-- what fits once it has grown fits before
+pub fits_before : (a b : List (Option Cell)) → IsGrown a b → Fits b → Fits a
+fits_before a b g f = record { light = omega (arith, grown_weight a b g, f.light); few = omega (arith, grown_length a b g, f.few) }
 
 pub grown_cell : (a b : List (Option Cell)) (x : ℕ) → IsGrown a b → x < length a → cell_at b x ≡ cell_at a x
 grown_cell a b x g l = ap (λ (c : List (Option Cell)). cell_at c x) g.cells ∙ get_or_append_left a g.more None x l

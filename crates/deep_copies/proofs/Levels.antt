@@ -6,8 +6,8 @@ use Rattle.variant_values.specs.declared.values.Value.{Value}
 use Rattle.variant_values.specs.declared.values.Value.TheVariants.{Null, Bool as Truth, Int, Str, Array, Dict, Object, Callable, Signal, Class, Scene, Weak}
 use Rattle.variant_values.specs.Copies.{copied, copied_with}
 use Rattle.variant_values.specs.Heaps.{Heap, cell_at, items_of, entries_of}
-use Rattle.variant_values.specs.Places.{entry_weight, item_weight}
-use Rattle.deep_copies.specs.CopyWeights.{array_copy, dict_copy, copy_weight, total, weight_with}
+use Rattle.deep_copies.specs.CopyWeights.{array_copy, dict_copy, cell_cost, copy_cost, entry_cost, item_cost, total, weight_with}
+use Rattle.deep_copies.specs.declared.rooms.Measure.{Measure}
 use Rattle.deep_copies.specs.DeepCopies.{is_container}
 
 -- one that is no container
@@ -41,19 +41,19 @@ pub copied-suc : (n : ℕ) (h : Heap) (v : Value) → copied (suc n) h v ≡ cop
 unfolding copied
 copied-suc n h v = refl
 
-abbrev pub array_weight : ℕ → List (Option Cell) → Serial → ℕ
-array_weight n cells s = 16 + total (λ w. item_weight w + copy_weight n cells w) (items_of (cell_at cells s.0))
+abbrev pub array_cost : Measure → ℕ → List (Option Cell) → Serial → ℕ
+array_cost m n cells s = cell_cost m + total (λ w. item_cost m w + copy_cost m n cells w) (items_of (cell_at cells s.0))
 
-abbrev pub dict_weight : ℕ → List (Option Cell) → Serial → ℕ
-dict_weight n cells s = 16 + total (λ e. entry_weight e + copy_weight n cells e.1) (entries_of (cell_at cells s.0))
+abbrev pub dict_cost : Measure → ℕ → List (Option Cell) → Serial → ℕ
+dict_cost m n cells s = cell_cost m + total (λ e. entry_cost m e + copy_cost m n cells e.1) (entries_of (cell_at cells s.0))
 
-pub weight-zero : (cells : List (Option Cell)) (v : Value) → copy_weight zero cells v ≡ 0
-unfolding copy_weight
-weight-zero cells v = refl
+pub cost-zero : (m : Measure) (cells : List (Option Cell)) (v : Value) → copy_cost m zero cells v ≡ 0
+unfolding copy_cost
+cost-zero m cells v = refl
 
-pub weight-suc : (n : ℕ) (cells : List (Option Cell)) (v : Value) → copy_weight (suc n) cells v ≡ weight_with (array_weight n cells) (dict_weight n cells) v
-unfolding copy_weight
-weight-suc n cells v = refl
+pub cost-suc : (m : Measure) (n : ℕ) (cells : List (Option Cell)) (v : Value) → copy_cost m (suc n) cells v ≡ weight_with (array_cost m n cells) (dict_cost m n cells) v
+unfolding copy_cost
+cost-suc m n cells v = refl
 
 -- ---- as the code goes down
 
@@ -73,18 +73,18 @@ pub copied_dict : (n : ℕ) (h : Heap) (v : Value) (s : Serial) → v ≡ Dict s
 copied_dict zero h v s is some = absurd (some refl)
 copied_dict (suc n) h v s is some = let e : n ≡ suc n - 1 = omega arith in ap (copied (suc n) h) is ∙ copied-suc n h (Dict s) ∙ ap (λ m. dict_copy m h s) e
 
-pub weight_last : (n : ℕ) (cells : List (Option Cell)) (v : Value) → n ≡ 0 → copy_weight n cells v ≡ 0
-weight_last zero cells v e = weight-zero cells v
-weight_last (suc n) cells v e = absurd (omega arith)
+pub cost_last : (m : Measure) (n : ℕ) (cells : List (Option Cell)) (v : Value) → n ≡ 0 → copy_cost m n cells v ≡ 0
+cost_last m zero cells v e = cost-zero m cells v
+cost_last m (suc n) cells v e = absurd (omega arith)
 
-pub weight_scalar : (n : ℕ) (cells : List (Option Cell)) (v : Value) → ((s : Serial) → v ≡ Array s → ⊥) → ((s : Serial) → v ≡ Dict s → ⊥) → copy_weight n cells v ≡ 0
-weight_scalar zero cells v a d = weight-zero cells v
-weight_scalar (suc n) cells v a d = weight-suc n cells v ∙ (scalar v a d).weight (array_weight n cells) (dict_weight n cells)
+pub cost_scalar : (m : Measure) (n : ℕ) (cells : List (Option Cell)) (v : Value) → ((s : Serial) → v ≡ Array s → ⊥) → ((s : Serial) → v ≡ Dict s → ⊥) → copy_cost m n cells v ≡ 0
+cost_scalar m zero cells v a d = cost-zero m cells v
+cost_scalar m (suc n) cells v a d = cost-suc m n cells v ∙ (scalar v a d).weight (array_cost m n cells) (dict_cost m n cells)
 
-pub weight_array : (n : ℕ) (cells : List (Option Cell)) (v : Value) (s : Serial) → v ≡ Array s → n ≢ 0 → copy_weight n cells v ≡ array_weight (n - 1) cells s
-weight_array zero cells v s is some = absurd (some refl)
-weight_array (suc n) cells v s is some = let e : n ≡ suc n - 1 = omega arith in ap (copy_weight (suc n) cells) is ∙ weight-suc n cells (Array s) ∙ ap (λ m. array_weight m cells s) e
+pub cost_array : (m : Measure) (n : ℕ) (cells : List (Option Cell)) (v : Value) (s : Serial) → v ≡ Array s → n ≢ 0 → copy_cost m n cells v ≡ array_cost m (n - 1) cells s
+cost_array m zero cells v s is some = absurd (some refl)
+cost_array m (suc n) cells v s is some = let e : n ≡ suc n - 1 = omega arith in ap (copy_cost m (suc n) cells) is ∙ cost-suc m n cells (Array s) ∙ ap (λ k. array_cost m k cells s) e
 
-pub weight_dict : (n : ℕ) (cells : List (Option Cell)) (v : Value) (s : Serial) → v ≡ Dict s → n ≢ 0 → copy_weight n cells v ≡ dict_weight (n - 1) cells s
-weight_dict zero cells v s is some = absurd (some refl)
-weight_dict (suc n) cells v s is some = let e : n ≡ suc n - 1 = omega arith in ap (copy_weight (suc n) cells) is ∙ weight-suc n cells (Dict s) ∙ ap (λ m. dict_weight m cells s) e
+pub cost_dict : (m : Measure) (n : ℕ) (cells : List (Option Cell)) (v : Value) (s : Serial) → v ≡ Dict s → n ≢ 0 → copy_cost m n cells v ≡ dict_cost m (n - 1) cells s
+cost_dict m zero cells v s is some = absurd (some refl)
+cost_dict m (suc n) cells v s is some = let e : n ≡ suc n - 1 = omega arith in ap (copy_cost m (suc n) cells) is ∙ cost-suc m n cells (Dict s) ∙ ap (λ k. dict_cost m k cells s) e

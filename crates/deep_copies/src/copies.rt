@@ -1,12 +1,11 @@
 // Copies of containers, those inside first. The heap takes the whole.
-ghost use Rattle.std.specs.Prelude.{◌≡◌, ◌<◌, ◌≤◌, true, length, slice_get, IfOk, OnOk, Some};
+ghost use Rattle.std.specs.Prelude.{◌≡◌, ◌<◌, true, length, slice_get, IfOk, OnOk, Some};
 ghost use Rattle.variant_values.specs.declared.cells.Cell.TheVariants.{Array as ArrayCell, Dict as DictCell};
 ghost use Rattle.variant_values.specs.Heaps.{cell_at, entries_of, is_array, is_dict, items_of, knows, knows_key, with_new, KnowsAll, KnowsEntries};
 ghost use Rattle.variant_values.specs.Keys.{with_entry};
-ghost use Rattle.variant_values.specs.Places.{weight};
 ghost use Rattle.variant_values.specs.Changes.{Keeps};
 ghost use Rattle.variant_values.specs.Copies.{copied, copied_items, copied_entries, new_array_of, new_dict_of};
-ghost use Rattle.deep_copies.specs.CopyWeights.{array_copy, dict_copy};
+ghost use Rattle.deep_copies.specs.CopyWeights.{array_copy, dict_copy, Fits};
 
 use call_support::changes::{new_array, new_dict};
 use call_support::views::{element, entries, items};
@@ -23,14 +22,12 @@ fn place_array(
     items: Vec<Value>,
     of: Option<ElementTag>,
 ) -> Result<Value, AllocError>
-    requires known { KnowsAll heap.old.cells items.items }
-    requires fits { weight (with_new heap.old (ArrayCell items.items of)).cells ≤ 67108864 }
-    ensures copy { IfOk result (λ v. (v, heap.new) ≡ new_array_of of (items.items, heap.old)) }
-    ensures keeps { Keeps heap.old.cells heap.new.cells }
-    ensures known { IfOk result (λ v. knows heap.new.cells v ≡ true) }
+    requires known { KnowsAll heap.old.state.cells items.items }
+    requires fits { Fits (with_new heap.old.state (ArrayCell items.items of)).cells }
+    ensures copy { IfOk result (λ v. (v, heap.new.state) ≡ new_array_of of (items.items, heap.old.state)) }
+    ensures keeps { Keeps heap.old.state.cells heap.new.state.cells }
+    ensures known { IfOk result (λ v. knows heap.new.state.cells v ≡ true) }
 {
-    // A heap has fewer cells than there are serials.
-    let _room = heap.room();
     match new_array(heap, items, of) {
         Ok(v) => Ok(v),
         Err(Trouble::NoMemory) => Err(AllocError),
@@ -40,14 +37,12 @@ fn place_array(
 
 /// Makes the copy of a dictionary.
 fn place_dict(heap: &mut Heap, entries: Entries) -> Result<Value, AllocError>
-    requires known { KnowsEntries heap.old.cells entries }
-    requires fits { weight (with_new heap.old (DictCell entries)).cells ≤ 67108864 }
-    ensures copy { IfOk result (λ v. (v, heap.new) ≡ new_dict_of (entries, heap.old)) }
-    ensures keeps { Keeps heap.old.cells heap.new.cells }
-    ensures known { IfOk result (λ v. knows heap.new.cells v ≡ true) }
+    requires known { KnowsEntries heap.old.state.cells entries }
+    requires fits { Fits (with_new heap.old.state (DictCell entries)).cells }
+    ensures copy { IfOk result (λ v. (v, heap.new.state) ≡ new_dict_of (entries, heap.old.state)) }
+    ensures keeps { Keeps heap.old.state.cells heap.new.state.cells }
+    ensures known { IfOk result (λ v. knows heap.new.state.cells v ≡ true) }
 {
-    // A heap has fewer cells than there are serials.
-    let _room = heap.room();
     match new_dict(heap, entries) {
         Ok(v) => Ok(v),
         Err(Trouble::NoMemory) => Err(AllocError),
@@ -64,21 +59,21 @@ fn shared(v: &Value) -> Result<Value, AllocError>
 
 /// An item of an array.
 fn item(heap: &Heap, of: Serial, index: usize) -> Result<Value, AllocError>
-    requires array { is_array (cell_at heap.now.cells of.0) ≡ true }
-    requires within { index < length (items_of (cell_at heap.now.cells of.0)) }
-    ensures value { IfOk result (λ v. slice_get (items_of (cell_at heap.now.cells of.0)) index ≡ Some v) }
-    ensures known { IfOk result (λ v. knows heap.now.cells v ≡ true) }
+    requires array { is_array (cell_at heap.now.state.cells of.0) ≡ true }
+    requires within { index < length (items_of (cell_at heap.now.state.cells of.0)) }
+    ensures value { IfOk result (λ v. slice_get (items_of (cell_at heap.now.state.cells of.0)) index ≡ Some v) }
+    ensures known { IfOk result (λ v. knows heap.now.state.cells v ≡ true) }
 {
     Ok(items(heap, of)[index].clone()?)
 }
 
 /// An entry of a dictionary.
 fn entry(heap: &Heap, of: Serial, index: usize) -> Result<(Key, Value), AllocError>
-    requires dict { is_dict (cell_at heap.now.cells of.0) ≡ true }
-    requires within { index < length (entries_of (cell_at heap.now.cells of.0)) }
-    ensures value { IfOk result (λ e. slice_get (entries_of (cell_at heap.now.cells of.0)) index ≡ Some e) }
-    ensures key { IfOk result (λ e. knows_key heap.now.cells e.0 ≡ true) }
-    ensures known { IfOk result (λ e. knows heap.now.cells e.1 ≡ true) }
+    requires dict { is_dict (cell_at heap.now.state.cells of.0) ≡ true }
+    requires within { index < length (entries_of (cell_at heap.now.state.cells of.0)) }
+    ensures value { IfOk result (λ e. slice_get (entries_of (cell_at heap.now.state.cells of.0)) index ≡ Some e) }
+    ensures key { IfOk result (λ e. knows_key heap.now.state.cells e.0 ≡ true) }
+    ensures known { IfOk result (λ e. knows heap.now.state.cells e.1 ≡ true) }
 {
     let (key, value) = entries(heap, of).entry_at(index);
     Ok((key.clone()?, value.clone()?))
@@ -100,11 +95,11 @@ pub fn copy_value(
     v: &Value,
     levels: u32,
 ) -> Result<Value, AllocError>
-    requires known { knows heap.old.cells v.now ≡ true }
-    requires fits { weight (copied levels heap.old v.now).1.cells ≤ 67108864 }
-    ensures copy { IfOk result (λ w. (w, heap.new) ≡ copied levels heap.old v.now) }
-    ensures keeps { Keeps heap.old.cells heap.new.cells }
-    ensures known { IfOk result (λ w. knows heap.new.cells w ≡ true) }
+    requires known { knows heap.old.state.cells v.now ≡ true }
+    requires fits { Fits (copied levels heap.old.state v.now).1.cells }
+    ensures copy { IfOk result (λ w. (w, heap.new.state) ≡ copied levels heap.old.state v.now) }
+    ensures keeps { Keeps heap.old.state.cells heap.new.state.cells }
+    ensures known { IfOk result (λ w. knows heap.new.state.cells w ≡ true) }
 {
     if levels == 0 {
         return shared(v);
@@ -118,11 +113,11 @@ pub fn copy_value(
 
 #[cycle(copies)]
 fn copy_array(alloc: Global, heap: &mut Heap, of: Serial, levels: u32) -> Result<Value, AllocError>
-    requires known { is_array (cell_at heap.old.cells of.0) ≡ true }
-    requires fits { weight (array_copy levels heap.old of).1.cells ≤ 67108864 }
-    ensures copy { IfOk result (λ w. (w, heap.new) ≡ array_copy levels heap.old of) }
-    ensures keeps { Keeps heap.old.cells heap.new.cells }
-    ensures known { IfOk result (λ w. knows heap.new.cells w ≡ true) }
+    requires known { is_array (cell_at heap.old.state.cells of.0) ≡ true }
+    requires fits { Fits (array_copy levels heap.old.state of).1.cells }
+    ensures copy { IfOk result (λ w. (w, heap.new.state) ≡ array_copy levels heap.old.state of) }
+    ensures keeps { Keeps heap.old.state.cells heap.new.state.cells }
+    ensures known { IfOk result (λ w. knows heap.new.state.cells w ≡ true) }
 {
     let element = element(heap, of);
     let copy = copy_items(alloc, heap, of, levels)?;
@@ -131,11 +126,11 @@ fn copy_array(alloc: Global, heap: &mut Heap, of: Serial, levels: u32) -> Result
 
 #[cycle(copies)]
 fn copy_dict(alloc: Global, heap: &mut Heap, of: Serial, levels: u32) -> Result<Value, AllocError>
-    requires known { is_dict (cell_at heap.old.cells of.0) ≡ true }
-    requires fits { weight (dict_copy levels heap.old of).1.cells ≤ 67108864 }
-    ensures copy { IfOk result (λ w. (w, heap.new) ≡ dict_copy levels heap.old of) }
-    ensures keeps { Keeps heap.old.cells heap.new.cells }
-    ensures known { IfOk result (λ w. knows heap.new.cells w ≡ true) }
+    requires known { is_dict (cell_at heap.old.state.cells of.0) ≡ true }
+    requires fits { Fits (dict_copy levels heap.old.state of).1.cells }
+    ensures copy { IfOk result (λ w. (w, heap.new.state) ≡ dict_copy levels heap.old.state of) }
+    ensures keeps { Keeps heap.old.state.cells heap.new.state.cells }
+    ensures known { IfOk result (λ w. knows heap.new.state.cells w ≡ true) }
 {
     let copy = copy_entries(alloc, heap, of, levels)?;
     place_dict(heap, copy)
@@ -148,11 +143,11 @@ fn copy_items(
     of: Serial,
     levels: u32,
 ) -> Result<Vec<Value>, AllocError>
-    requires known { is_array (cell_at heap.old.cells of.0) ≡ true }
-    requires fits { weight (copied_items (copied levels) heap.old (items_of (cell_at heap.old.cells of.0))).1.cells ≤ 67108864 }
-    ensures copy { IfOk result (λ list. (list.items, heap.new) ≡ copied_items (copied levels) heap.old (items_of (cell_at heap.old.cells of.0))) }
-    ensures keeps { Keeps heap.old.cells heap.new.cells }
-    ensures known { IfOk result (λ list. KnowsAll heap.new.cells list.items) }
+    requires known { is_array (cell_at heap.old.state.cells of.0) ≡ true }
+    requires fits { Fits (copied_items (copied levels) heap.old.state (items_of (cell_at heap.old.state.cells of.0))).1.cells }
+    ensures copy { IfOk result (λ list. (list.items, heap.new.state) ≡ copied_items (copied levels) heap.old.state (items_of (cell_at heap.old.state.cells of.0))) }
+    ensures keeps { Keeps heap.old.state.cells heap.new.state.cells }
+    ensures known { IfOk result (λ list. KnowsAll heap.new.state.cells list.items) }
 {
     let mut copy = Vec::new(alloc);
     for i in 0..items(heap, of).len() {
@@ -169,11 +164,11 @@ fn copy_entries(
     of: Serial,
     levels: u32,
 ) -> Result<Entries, AllocError>
-    requires known { is_dict (cell_at heap.old.cells of.0) ≡ true }
-    requires fits { weight (copied_entries (copied levels) heap.old (entries_of (cell_at heap.old.cells of.0))).1.cells ≤ 67108864 }
-    ensures copy { IfOk result (λ es. (es, heap.new) ≡ copied_entries (copied levels) heap.old (entries_of (cell_at heap.old.cells of.0))) }
-    ensures keeps { Keeps heap.old.cells heap.new.cells }
-    ensures known { IfOk result (λ es. KnowsEntries heap.new.cells es) }
+    requires known { is_dict (cell_at heap.old.state.cells of.0) ≡ true }
+    requires fits { Fits (copied_entries (copied levels) heap.old.state (entries_of (cell_at heap.old.state.cells of.0))).1.cells }
+    ensures copy { IfOk result (λ es. (es, heap.new.state) ≡ copied_entries (copied levels) heap.old.state (entries_of (cell_at heap.old.state.cells of.0))) }
+    ensures keeps { Keeps heap.old.state.cells heap.new.state.cells }
+    ensures known { IfOk result (λ es. KnowsEntries heap.new.state.cells es) }
 {
     let mut copy = Entries::new(alloc);
     for i in 0..entries(heap, of).len() {

@@ -22,11 +22,11 @@ use variant_values::values::Value;
 
 /// Copies a value with all containers inside. What is no container stays shared.
 pub fn deep_copy(alloc: Global, heap: &mut Heap, of: &Value) -> Result<Value, Trouble>
-    requires { knows heap.old.cells of.now ≡ true }
-    ensures given { HasGiven result heap.old heap.new (deep_copy_of heap.old of.now) }
-    ensures apart { IfOk result (λ v. IsDeepCopy heap.old.cells heap.new.cells of.now v) }
-    ensures keeps { Keeps heap.old.cells heap.new.cells }
-    ensures known { IfOk result (λ v. knows heap.new.cells v ≡ true) }
+    requires { knows heap.old.state.cells of.now ≡ true }
+    ensures given { HasGiven result heap.old.state heap.new.state (deep_copy_of heap.old.state of.now) }
+    ensures apart { IfOk result (λ v. IsDeepCopy heap.old.state.cells heap.new.state.cells of.now v) }
+    ensures keeps { Keeps heap.old.state.cells heap.new.state.cells }
+    ensures known { IfOk result (λ v. knows heap.new.state.cells v ≡ true) }
 {
     heap.is_sound();
     if !is_within(heap, of) {

@@ -18,17 +18,17 @@ use variant_values::texts::Str;
 use variant_values::values::{Key, Value};
 
 fn add_array(alloc: Global, heap: &mut Heap, of: Option<ElementTag>) -> Result<Value, Fail>
-    ensures known { IfOk result (λ v. knows heap.new.cells v ≡ true) }
-    ensures keeps { Keeps heap.old.cells heap.new.cells }
+    ensures known { IfOk result (λ v. knows heap.new.state.cells v ≡ true) }
+    ensures keeps { Keeps heap.old.state.cells heap.new.state.cells }
 {
     Ok(new_array(heap, Vec::new(alloc), of)?)
 }
 
 /// Puts a value last.
 fn push(alloc: Global, heap: &mut Heap, of: &Value, v: &Value) -> Result<(), Fail>
-    requires of { knows heap.old.cells of.now ≡ true }
-    requires v { knows heap.old.cells v.now ≡ true }
-    ensures keeps { Keeps heap.old.cells heap.new.cells }
+    requires of { knows heap.old.state.cells of.now ≡ true }
+    requires v { knows heap.old.state.cells v.now ≡ true }
+    ensures keeps { Keeps heap.old.state.cells heap.new.state.cells }
 {
     let Value::Array(s) = of else {
         return Err(Fail::from("no array"));
@@ -42,9 +42,9 @@ fn push(alloc: Global, heap: &mut Heap, of: &Value, v: &Value) -> Result<(), Fai
 
 /// A dictionary with one entry.
 fn add_dict(alloc: Global, heap: &mut Heap, key: i64, v: &Value) -> Result<Value, Fail>
-    requires v { knows heap.old.cells v.now ≡ true }
-    ensures known { IfOk result (λ v. knows heap.new.cells v ≡ true) }
-    ensures keeps { Keeps heap.old.cells heap.new.cells }
+    requires v { knows heap.old.state.cells v.now ≡ true }
+    ensures known { IfOk result (λ v. knows heap.new.state.cells v ≡ true) }
+    ensures keeps { Keeps heap.old.state.cells heap.new.state.cells }
 {
     let dict = new_dict(heap, Entries::new(alloc))?;
     let Value::Dict(s) = dict else {
@@ -56,9 +56,9 @@ fn add_dict(alloc: Global, heap: &mut Heap, key: i64, v: &Value) -> Result<Value
 
 /// An object without fields.
 fn add_object(alloc: Global, heap: &mut Heap) -> Result<Value, Fail>
-    requires some { 0 < length heap.old.cells }
-    ensures known { IfOk result (λ v. knows heap.new.cells v ≡ true) }
-    ensures keeps { Keeps heap.old.cells heap.new.cells }
+    requires some { 0 < length heap.old.state.cells }
+    ensures known { IfOk result (λ v. knows heap.new.state.cells v ≡ true) }
+    ensures keeps { Keeps heap.old.state.cells heap.new.state.cells }
 {
     let mut tags = Vec::new(alloc);
     tags.push(ClassTag::RefCounted)?;
@@ -85,7 +85,7 @@ fn push_value(text: &mut String, v: &Value) -> Result<(), Fail> {
 
 /// The items of an array, or the values of a dictionary, each with a semicolon.
 fn shown(alloc: Global, heap: &Heap, of: &Value) -> Result<String, Fail>
-    requires { knows heap.now.cells of.now ≡ true }
+    requires { knows heap.now.state.cells of.now ≡ true }
 {
     let mut text = String::new(alloc);
     match of {
@@ -109,8 +109,8 @@ fn shown(alloc: Global, heap: &Heap, of: &Value) -> Result<String, Fail>
 
 /// An item of an array.
 fn item(heap: &Heap, of: &Value, at: usize) -> Result<Value, Fail>
-    requires { knows heap.now.cells of.now ≡ true }
-    ensures { IfOk result (λ v. knows heap.now.cells v ≡ true) }
+    requires { knows heap.now.state.cells of.now ≡ true }
+    ensures { IfOk result (λ v. knows heap.now.state.cells v ≡ true) }
 {
     let Value::Array(s) = of else {
         return Err(Fail::from("no array"));
@@ -122,15 +122,15 @@ fn item(heap: &Heap, of: &Value, at: usize) -> Result<Value, Fail>
 }
 
 fn shown_at(alloc: Global, heap: &Heap, of: &Value, at: usize) -> Result<String, Fail>
-    requires { knows heap.now.cells of.now ≡ true }
+    requires { knows heap.now.state.cells of.now ≡ true }
 {
     shown(alloc, heap, &item(heap, of, at)?)
 }
 
 /// Puts a number last in the array that is the first item.
 fn push_inside(alloc: Global, heap: &mut Heap, of: &Value, n: i64) -> Result<(), Fail>
-    requires { knows heap.old.cells of.now ≡ true }
-    ensures { Keeps heap.old.cells heap.new.cells }
+    requires { knows heap.old.state.cells of.now ≡ true }
+    ensures { Keeps heap.old.state.cells heap.new.state.cells }
 {
     let first = item(heap, of, 0)?;
     push(alloc, heap, &first, &Value::Int(n))
@@ -138,8 +138,8 @@ fn push_inside(alloc: Global, heap: &mut Heap, of: &Value, n: i64) -> Result<(),
 
 /// The array 1 of whole numbers stands twice in the array 3, and once in the dictionary 2, which stands there too.
 fn add_nested(alloc: Global, heap: &mut Heap) -> Result<Value, Fail>
-    ensures known { IfOk result (λ v. knows heap.new.cells v ≡ true) }
-    ensures keeps { Keeps heap.old.cells heap.new.cells }
+    ensures known { IfOk result (λ v. knows heap.new.state.cells v ≡ true) }
+    ensures keeps { Keeps heap.old.state.cells heap.new.state.cells }
 {
     let inner = add_array(alloc, heap, Some(ElementTag::Int))?;
     push(alloc, heap, &inner, &Value::Int(5))?;
@@ -183,7 +183,7 @@ fn a_change_of_the_copy_leaves_the_original(rt: HostRuntime) -> Result<(), Fail>
 }
 
 fn element_at(heap: &Heap, of: &Value) -> Option<ElementTag>
-    requires { knows heap.now.cells of.now ≡ true }
+    requires { knows heap.now.state.cells of.now ≡ true }
 {
     match of {
         Value::Array(s) => element(heap, *s),
@@ -223,7 +223,7 @@ fn check_refused(
     fault: RunFault,
     cells: u64,
 ) -> Result<(), Fail>
-    requires { knows heap.old.cells of.now ≡ true }
+    requires { knows heap.old.state.cells of.now ≡ true }
 {
     let room = heap.room();
     let answer = deep_copy(rt.alloc(), heap, of);
@@ -244,7 +244,7 @@ fn a_cycle_is_too_deep(rt: HostRuntime) -> Result<(), Fail> {
 
 /// An array in an array, so many.
 fn add_chain(alloc: Global, heap: &mut Heap, levels: u32) -> Result<Value, Fail>
-    ensures known { IfOk result (λ v. knows heap.new.cells v ≡ true) }
+    ensures known { IfOk result (λ v. knows heap.new.state.cells v ≡ true) }
 {
     let mut top = add_array(alloc, heap, None)?;
     for _ in 1..levels {
@@ -279,9 +279,9 @@ fn long_text(alloc: Global) -> Result<Str, Fail> {
 
 /// An array of a value, so many times.
 fn add_repeated(alloc: Global, heap: &mut Heap, v: &Value, count: u32) -> Result<Value, Fail>
-    requires v { knows heap.old.cells v.now ≡ true }
-    ensures known { IfOk result (λ v. knows heap.new.cells v ≡ true) }
-    ensures keeps { Keeps heap.old.cells heap.new.cells }
+    requires v { knows heap.old.state.cells v.now ≡ true }
+    ensures known { IfOk result (λ v. knows heap.new.state.cells v ≡ true) }
+    ensures keeps { Keeps heap.old.state.cells heap.new.state.cells }
 {
     let list = add_array(alloc, heap, None)?;
     for _ in 0..count {
@@ -329,7 +329,7 @@ fn a_dictionary_is_copied_with_what_is_inside(rt: HostRuntime) -> Result<(), Fai
 
 /// A dictionary in a dictionary, so many.
 fn add_dict_chain(alloc: Global, heap: &mut Heap, levels: u32) -> Result<Value, Fail>
-    ensures known { IfOk result (λ v. knows heap.new.cells v ≡ true) }
+    ensures known { IfOk result (λ v. knows heap.new.state.cells v ≡ true) }
 {
     let mut top = add_dict(alloc, heap, 0, &Value::Null)?;
     for _ in 1..levels {

@@ -54,8 +54,14 @@ impl<F: Fn(Global, &[Token], usize, usize, u8) -> Result<Found, SolveError>> Rul
             levels: deep,
             at,
         } = self.inner(skip(self.tokens, at), 0, level - 1)?;
+        let binary = Expr::Binary {
+            place,
+            op,
+            left: tree,
+            right,
+        };
         Ok(Found {
-            tree: Boxed::new(self.alloc, Expr::Binary(place, op, tree, right))?,
+            tree: Boxed::new(self.alloc, binary)?,
             levels: larger(levels, deep) + 1,
             at,
         })
@@ -80,7 +86,13 @@ impl<F: Fn(Global, &[Token], usize, usize, u8) -> Result<Found, SolveError>> Rul
             levels: deep,
             at,
         } = self.inner(at, 1, level - 1)?;
-        let within = Boxed::new(self.alloc, Expr::Binary(place, TreeOp::Within, tree, right))?;
+        let binary = Expr::Binary {
+            place,
+            op: TreeOp::Within,
+            left: tree,
+            right,
+        };
+        let within = Boxed::new(self.alloc, binary)?;
         Ok(Found {
             tree: Boxed::new(self.alloc, Expr::Not(place, within))?,
             levels: larger(levels, deep) + 2,

@@ -9,8 +9,6 @@ mod operand;
 mod postfix;
 pub mod reader;
 mod rules;
-#[cfg(test)]
-mod tests;
 mod top;
 mod types;
 

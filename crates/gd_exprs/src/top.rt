@@ -87,24 +87,30 @@ impl<F: Fn(Global, &[Token], usize, usize, u8) -> Result<Found, SolveError>> Rul
             return Ok(left);
         }
         let Found {
-            tree: a,
+            tree: value,
             levels: first,
             at,
         } = left;
         fits_over(self.tokens, at, self.room, first, 1)?;
         let Found {
-            tree: c,
+            tree: condition,
             levels: second,
             at,
         } = self.inner(skip(self.tokens, at), 0, OR)?;
         let at = due(self.tokens, at, Sought::Other, Mark::Else)?;
         let Found {
-            tree: b,
+            tree: otherwise,
             levels: third,
             at,
         } = self.inner(at, 0, TERNARY)?;
+        let ternary = Expr::Ternary {
+            place,
+            value,
+            condition,
+            otherwise,
+        };
         Ok(Found {
-            tree: Boxed::new(self.alloc, Expr::Ternary(place, a, c, b))?,
+            tree: Boxed::new(self.alloc, ternary)?,
             levels: larger(first, larger(second, third)) + 1,
             at,
         })

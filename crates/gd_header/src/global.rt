@@ -1,9 +1,9 @@
 // The global name of a script.
 ghost use Rattle.std.specs.Prelude.{◌≡◌, ◌≤◌, ◌^◌, ◌==◌, ◌&&◌, not, true, if◌then◌else◌, length, drop, option_map};
-ghost use Rattle.gd_syntax.specs.Layout.{past_all, text_of};
+ghost use Rattle.gd_syntax.specs.Layout.{past_all, text_of, text_start};
 ghost use Rattle.gd_syntax.specs.Spellings.{begins};
 ghost use Rattle.std.specs.Str.{chars};
-ghost use Rattle.gd_syntax.specs.Header.{global_of, header_end_of, header_len, header_text, is_header_line, name_behind, name_from, start};
+ghost use Rattle.gd_syntax.specs.Header.{global_of, header_end_of, header_len, header_text, is_header_line, name_behind, name_from};
 ghost use Rattle.gd_header.specs.Parts.{global_in};
 
 use crate::cursor::{Cursor, is_at_end, split_first};
@@ -63,7 +63,7 @@ fn header_text(text: &str) -> &str
 /// The global name in the lines of a header.
 fn global_name(text: &str) -> Option<(&str, Place)>
     requires { length text.now ≤ 2 ^ 30 }
-    ensures { option_map global_in result ≡ name_from 0 start (chars text.now) }
+    ensures { option_map global_in result ≡ name_from 0 text_start (chars text.now) }
 {
     let mut cursor = Cursor::new(text);
     while !is_at_end(cursor.rest) {

@@ -4,8 +4,6 @@
 mod cursor;
 mod global;
 mod parts;
-#[cfg(test)]
-mod tests;
 mod words;
 
 pub use global::{header, header_end};

@@ -5,6 +5,7 @@ ghost use Rattle.std.specs.Str.{chars};
 ghost use Rattle.unicode_ident.specs.Ident.{is_xid_continue};
 ghost use Rattle.gd_syntax.specs.Header.{word_of};
 ghost use Rattle.gd_syntax.specs.Spellings.{spelled};
+ghost use Rattle.gd_syntax.specs.Tokens.{keywords};
 ghost use Rattle.gd_header.specs.CursorParts.{IsEnd};
 
 use crate::cursor::{is_at_end, split_first};
@@ -43,7 +44,7 @@ fn is_one_of(marks: &[Mark], text: &str) -> bool
 
 /// Whether the word is a keyword.
 pub fn is_keyword(word: &str) -> bool
-    ensures { result ≡ is_some (spelled KEYWORDS (chars word.now)) }
+    ensures { result ≡ is_some (spelled keywords (chars word.now)) }
 {
     is_one_of(&KEYWORDS, word)
 }

@@ -1,19 +1,20 @@
 -- What a machine did, by the run that its script means.
 use Rattle.std.specs.Prelude.{◌≡◌, ℕ, List, [], Bool, true, false}
-use Rattle.std.specs.declared.option.Option.{Option}
-use Rattle.std.specs.Io.KnownBytes.{append_known}
-use Rattle.host_io.specs.Sink.{TookFront}
-use Rattle.gd_syntax.specs.FirstRun.{Run, ended, spent, end_line}
+use Rattle.host_io.specs.Sink.{SinkState}
+use Rattle.host_io.specs.Pieces.{WroteAll, WroteFirst, FailedWrite}
+use Rattle.gd_syntax.specs.FirstTree.{Script}
+use Rattle.gd_syntax.specs.FirstRun.{run_of, ended, spent, end_line}
+use Rattle.gd_machine.specs.Pieces.{printed_pieces}
 use Rattle.gd_machine.specs.declared.machine.Ending.{Ending}
 use Rattle.gd_machine.specs.declared.machine.Ending.TheVariants.{Ended, StepsSpent, SinkFault, NoMemory}
 
--- The run of the script at this path: with an end that is told, its whole text was written, and else a part of the
--- text's front.
-abbrev pub HasRun : List ℕ → Run → Option (List ℕ) → Option (List ℕ) → Ending → Type 0
-HasRun path run old new (Ended steps left) = (run.end ≡ ended steps left) × (new ≡ append_known old run.text)
-HasRun path run old new (StepsSpent at steps) = (run.end ≡ spent at.line steps) × (at.path ≡ path) × (new ≡ append_known old run.text)
-HasRun path run old new SinkFault = TookFront old new run.text
-HasRun path run old new NoMemory = TookFront old new run.text
+-- The run of the script at this path within an allowance of steps: with an end that is told, all its pieces were
+-- written, and else the first of them.
+abbrev pub HasRun : List ℕ → Script → ℕ → SinkState → SinkState → Ending → Type 0
+HasRun path script allowed old new (Ended steps left) = ((run_of script allowed).end ≡ ended steps left) × WroteAll old new (printed_pieces script allowed)
+HasRun path script allowed old new (StepsSpent at steps) = ((run_of script allowed).end ≡ spent at.line steps) × (at.path ≡ path) × WroteAll old new (printed_pieces script allowed)
+HasRun path script allowed old new SinkFault = FailedWrite old new (printed_pieces script allowed)
+HasRun path script allowed old new NoMemory = WroteFirst old new (printed_pieces script allowed)
 
 -- the run ended in a way that its script means, and not for want of memory or by a failed write
 abbrev pub is_told : Ending → Bool

@@ -1,3 +1,4 @@
 pub mod Line
 pub mod Ending
+pub mod Pieces
 pub mod Program

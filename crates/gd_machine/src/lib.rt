@@ -7,5 +7,5 @@ mod report;
 mod tests;
 mod values;
 
-pub use machine::{CodePlace, Ending, Machine, Program};
+pub use machine::{CodePlace, Ending, Machine, Program, printed_pieces_are_the_text};
 pub use report::ending_line;

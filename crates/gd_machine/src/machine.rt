@@ -1,10 +1,11 @@
 // Programs, and the machine that runs them.
-ghost use Rattle.std.specs.Prelude.{◌≡◌, ◌≢◌, ◌+◌, ◌≤◌, IfOk, IsErrOf, Err, length, map};
-ghost use Rattle.host_io.specs.Causes.{RoseBy};
-ghost use Rattle.host_io.specs.Sink.{Takes};
+ghost use Rattle.std.specs.Prelude.{◌≡◌, ◌+◌, ◌≤◌, [], ◌∷◌, ℕ, IfOk, length, map};
+ghost use Rattle.host_io.specs.Pieces.{joined};
+ghost use Rattle.gd_syntax.specs.FirstTree.{Script};
 ghost use Rattle.gd_syntax.specs.FirstScript.{print_of, script_of};
 ghost use Rattle.gd_syntax.specs.FirstRun.{print_text, run_of};
 ghost use Rattle.gd_machine.specs.Line.{end_at};
+ghost use Rattle.gd_machine.specs.Pieces.{printed_pieces, HasPut};
 ghost use Rattle.gd_machine.specs.declared.machine.Stop.TheVariants.{SinkFault as stop_sink, NoMemory as stop_memory};
 
 use crate::values::push_print;
@@ -85,16 +86,21 @@ impl From<WriteError> for Stop {
     }
 }
 
+/// Writes a piece of the text at once.
+fn write_piece<S: Sink>(sink: &mut S, piece: &[u8]) -> Result<(), Stop>
+    ensures { HasPut (S.state sink.old) (S.state sink.new) (piece.now ∷ []) result }
+{
+    sink.write_all(piece)?;
+    Ok(())
+}
+
 /// Runs one statement: its text is one write.
 fn run_print<S: Sink>(text: &mut String, sink: &mut S, print: &FirstPrint) -> Result<(), Stop>
-    ensures takes { Takes (S.taken sink.old) (S.taken sink.new) (print_text (print_of print.now)) result }
-    ensures cause { IsErrOf result Stop.SinkFault → RoseBy 1 (S.faults sink.old) (S.faults sink.new) }
-    ensures kept { (result ≢ Err Stop.SinkFault) → S.faults sink.new ≡ S.faults sink.old }
+    ensures { HasPut (S.state sink.old) (S.state sink.new) (print_text (print_of print.now) ∷ []) result }
 {
     text.clear();
     push_print(text, print)?;
-    sink.write_all(text.as_bytes())?;
-    Ok(())
+    write_piece(sink, text.as_bytes())
 }
 
 /// Runs statements until they end or their steps are spent, and says at which line they are.
@@ -105,10 +111,8 @@ fn run_prints<S: Sink>(
     steps: u64,
 ) -> Result<Option<u32>, Stop>
     requires { 1 ≤ steps }
-    ensures takes { Takes (S.taken sink.old) (S.taken sink.new) (run_of (map print_of prints.now) steps).text result }
+    ensures wrote { HasPut (S.state sink.old) (S.state sink.new) (printed_pieces (map print_of prints.now) steps) result }
     ensures end { IfOk result (λ line. (run_of (map print_of prints.now) steps).end ≡ end_at line (1 + length prints.now) steps) }
-    ensures cause { IsErrOf result Stop.SinkFault → RoseBy 1 (S.faults sink.old) (S.faults sink.new) }
-    ensures kept { (result ≢ Err Stop.SinkFault) → S.faults sink.new ≡ S.faults sink.old }
 {
     let mut used = 1;
     for print in prints {
@@ -141,9 +145,7 @@ impl Machine {
 
     /// Runs the program to its end. Each `print` is one write.
     pub fn run<S: Sink>(self, sink: &mut S) -> Ending
-        ensures run { HasRun (path_in (program_in self)) (run_of (script_in (program_in self)) (steps_in self)) (S.taken sink.old) (S.taken sink.new) result }
-        ensures cause { result ≡ Ending.SinkFault → RoseBy 1 (S.faults sink.old) (S.faults sink.new) }
-        ensures kept { (result ≢ Ending.SinkFault) → S.faults sink.new ≡ S.faults sink.old }
+        ensures { HasRun (path_in (program_in self)) (script_in (program_in self)) (steps_in self) (S.state sink.old) (S.state sink.new) result }
     {
         let Machine {
             program,
@@ -167,3 +169,8 @@ impl Machine {
         }
     }
 }
+
+/// The law that the pieces which are printed make the text of the run.
+pub fn printed_pieces_are_the_text()
+    ensures { (script : Script) (allowed : ℕ) → joined (printed_pieces script allowed) ≡ (run_of script allowed).text }
+{}

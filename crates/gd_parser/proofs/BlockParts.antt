@@ -1,5 +1,5 @@
 -- Small steps of the readings of statements and blocks.
-use Rattle.std.proofs.Common.{◌≡◌, ◌≢◌, ℕ, zero, suc, ◌-◌, ◌≤◌, Bool, true, false, List, [], ◌∷◌, ◌++◌, Option, Some, None, refl, sym, subst, arith}
+use Rattle.std.proofs.Common.{◌≡◌, ◌≢◌, ℕ, zero, suc, ◌-◌, ◌≤◌, Bool, true, false, List, [], ◌∷◌, ◌++◌, Option, Some, None, refl, subst, arith}
 use Rattle.gd_syntax.specs.declared.fault.Place.{Place}
 use Rattle.gd_syntax.specs.declared.token.Token.{Token}
 use Rattle.gd_syntax.specs.declared.token.Mark.{Mark}
@@ -13,9 +13,9 @@ use Rattle.gd_syntax.specs.declared.stops.Sought.TheVariants.{Other}
 use Rattle.gd_syntax.specs.Reading.{Outcome, Read, Stops, Reading, Then, goes, halts, ◌>>=◌, ◌>>◌, give, Look, looks, Turn, On, Loop}
 use Rattle.gd_syntax.specs.TokenReading.{max_levels, mark_at, skip, refuse, Due}
 use Rattle.gd_syntax.specs.DeclarationGrammar.{expr}
-use Rattle.gd_syntax.specs.StatementGrammar.{unbound, pats_by, pats, annotated_by, block, block_by}
+use Rattle.gd_syntax.specs.StatementGrammar.{unbound, pats_by, annotated_by, block, block_by}
 use Rattle.gd_syntax.proofs.StatementSteps.{block_is}
-use Rattle.gd_parser.specs.BlockForms.{headed, match_branch, form}
+use Rattle.gd_parser.specs.BlockForms.{headed, form}
 
 pub mark_differs : (k : Option Mark) (a b : Mark) → k ≡ Some a → a ≢ b → k ≢ Some b
 mark_differs k a b e n h = n (cc (e, h))
@@ -62,16 +62,6 @@ module _ (tokens : List Token) where
   pub annotated_none : (place : Place) (before : List Annotation) (at : ℕ) (o : Outcome Simple) → mark_at tokens at ≢ Some m.Var → refuse tokens Other at o
       → Look (mark_at tokens) (annotated_by tokens place before) at o
   annotated_none place before at o x h = looks refl (annotated_none_by place before (mark_at tokens at) at o x h)
-
-  -- a branch of a `match`, as a turn of the repetition
-  pub branch_turn : (room : ℕ) (sofar : List (List Pattern × List Stmt)) (at : ℕ) (o : Outcome (Turn (List (List Pattern × List Stmt))))
-      → Then (match_branch tokens room) (λ b. give (On (sofar ++ b ∷ []))) at o
-      → (do all ← pats tokens; Due tokens Other m.Colon; body ← block tokens room; give (On (sofar ++ (all, body) ∷ []))) at o
-  branch_turn room sofar at o (goes (goes p (goes d (goes b e))) r) = goes p (goes d (goes b (follow (λ x. give (On (sofar ++ x ∷ []))) o _ _ _ _ e r)))
-  branch_turn room sofar at o (halts (halts p)) = halts p
-  branch_turn room sofar at o (halts (goes p (halts d))) = goes p (halts d)
-  branch_turn room sofar at o (halts (goes p (goes d (halts b)))) = goes p (goes d (halts b))
-  branch_turn room sofar at o (halts (goes p (goes d (goes b e)))) = absurd (cc e)
 
   -- a block, where one more may be open
   pub block_of : (room at : ℕ) (o : Outcome (List Stmt)) → 1 ≤ room → form tokens (room - 1) at o → block tokens room at o

@@ -1,8 +1,7 @@
 -- Heads and files: the alternatives that a test chooses.
-use Rattle.std.proofs.Common.{◌≡◌, ◌≢◌, ◌==◌, ◌||◌, inl, inr, ℕ, Bool, true, false, not, List, [], ◌∷◌, Option, Some, None, Result, Ok, Err, sym, subst}
+use Rattle.std.proofs.Common.{◌≡◌, ◌||◌, ℕ, Bool, true, false, not, List, [], ◌∷◌, Option, Some, None, Result, Ok, Err, sym, subst}
 use Rattle.std.specs.List.{list_any, slice_get}
 use Rattle.std.specs.Result.{IsErrAnd}
-use Rattle.std.proofs.lemmas.Bool.Decides.{eqb_tells}
 use Rattle.gd_syntax.specs.declared.fault.Place.{Place}
 use Rattle.gd_syntax.specs.declared.fault.SolveError.{SolveError}
 use Rattle.gd_syntax.specs.declared.fault.SolveError.TheVariants.{Fault, NoMemory}
@@ -19,12 +18,6 @@ use Rattle.gd_syntax.specs.MemberGrammar.{is_field_annotation, base, annotated}
 use Rattle.gd_syntax.specs.ScriptGrammar.{Heads, is_head_annotation, with_head, is_named, is_based, base_by, class_name, extends, head_by, first_member, no_member, script}
 use Rattle.gd_syntax.proofs.OnlyScripts.{only_script}
 use Rattle.gd_parser.specs.Files.{IsParsed, GivesTree}
-
-pub same_line : (a b : ℕ) → a ≡ b → (a == b) ≡ true
-same_line a b e = elim (eqb_tells a b) [ inl u ↦ u.0 | inr u ↦ absurd (u.1 e) ]
-
-pub other_line : (a b : ℕ) → a ≢ b → (a == b) ≡ false
-other_line a b n = elim (eqb_tells a b) [ inl u ↦ absurd (n u.1) | inr u ↦ u.0 ]
 
 module _ (tokens : List Token) (found : ℕ → Bool) where
   module _ (based : Bool) (at : ℕ) (o : Outcome (Option Base)) where

@@ -8,10 +8,12 @@ use Rattle.gd_syntax.specs.declared.token.Token.{Token}
 use Rattle.gd_syntax.specs.declared.token.Mark.TheVariants as m
 use Rattle.gd_syntax.specs.declared.tree.expr.Expr.{Expr}
 use Rattle.gd_syntax.specs.declared.tree.pattern.Pattern.{Pattern}
+use Rattle.gd_syntax.specs.declared.tree.statement.Branch.{Branch}
+use Rattle.gd_syntax.specs.declared.tree.statement.MatchBranch.{MatchBranch}
 use Rattle.gd_syntax.specs.declared.tree.statement.Simple.{Simple}
 use Rattle.gd_syntax.specs.declared.tree.statement.Simple.TheVariants as simply
 use Rattle.gd_syntax.specs.declared.tree.statement.Stmt.{Stmt}
-use Rattle.gd_syntax.specs.Reading.{Reading, ◌>>=◌, ◌>>◌, Read, Answers, give, Turn, Look, Loop}
+use Rattle.gd_syntax.specs.Reading.{Reading, ◌>>=◌, ◌>>◌, Read, Answers, give, Turn, Look}
 use Rattle.gd_syntax.specs.declared.stops.Sought.TheVariants.{Other}
 use Rattle.gd_syntax.specs.TokenReading.{IsEnded, mark_at, Due}
 use Rattle.gd_syntax.specs.DeclarationGrammar.{is_ignore_word, expr, annots, const}
@@ -41,10 +43,10 @@ module _ (tokens : List Token) where
     abbrev pub inner : Reading (List Stmt)
     inner = grammar.block tokens room
 
-    abbrev pub branch : Reading (Expr × List Stmt)
+    abbrev pub branch : Reading Branch
     branch = grammar.branch tokens inner
 
-    abbrev pub elif : List (Expr × List Stmt) → Reading (Turn (List (Expr × List Stmt)))
+    abbrev pub elif : List Branch → Reading (Turn (List Branch))
     elif sofar = Look (mark_at tokens) (grammar.elif_by tokens inner sofar)
 
     abbrev pub other : Reading (Option (List Stmt))
@@ -59,10 +61,10 @@ module _ (tokens : List Token) where
     abbrev pub while_stmt : Place → Reading Stmt
     while_stmt = grammar.while_stmt tokens inner
 
-    abbrev pub match_branch : Reading (List Pattern × List Stmt)
-    match_branch = do all ← grammar.pats tokens; Due tokens Other m.Colon; body ← inner; give (all, body)
+    abbrev pub match_branch : Reading MatchBranch
+    match_branch = grammar.match_branch tokens inner
 
-    abbrev pub match_turn : List (List Pattern × List Stmt) → Reading (Turn (List (List Pattern × List Stmt)))
+    abbrev pub match_turn : List MatchBranch → Reading (Turn (List MatchBranch))
     match_turn sofar = Look (mark_at tokens) (grammar.match_by tokens inner sofar)
 
     abbrev pub match_stmt : Place → Reading Stmt

@@ -1,21 +1,15 @@
 -- The heads of a file while they are read, and the file as a whole.
-use Rattle.std.specs.Prelude.{◌≡◌, ◌==◌, ◌||◌, true, not, ℕ, Bool, List, Result, Ok, Err}
+use Rattle.std.specs.Prelude.{◌≡◌, ◌||◌, true, not, ℕ, Bool, List, Result, Ok, Err}
 use Rattle.std.specs.List.{list_any}
 use Rattle.gd_syntax.specs.declared.fault.Place.{Place}
 use Rattle.gd_syntax.specs.declared.fault.SolveError.{SolveError}
 use Rattle.gd_syntax.specs.declared.fault.SolveError.TheVariants.{Fault, NoMemory}
 use Rattle.gd_syntax.specs.declared.token.Token.{Token}
 use Rattle.gd_syntax.specs.declared.tree.member.Script.{Script}
-use Rattle.gd_syntax.specs.declared.tree.type_name.Identifier.{Identifier}
-use Rattle.gd_syntax.specs.Reading.{Outcome, Read, Stops, Reading, Look, Turn, Fails}
-use Rattle.gd_syntax.specs.TokenReading.{place_at}
+use Rattle.gd_syntax.specs.Reading.{Outcome, Read, Stops, Reading, Turn, Fails}
 use Rattle.gd_syntax.specs.MemberGrammar.{is_field_annotation}
-use Rattle.gd_syntax.specs.ScriptGrammar.{Heads, is_head_annotation, is_named, is_based, is_before, name_by, head as one_head, script}
+use Rattle.gd_syntax.specs.ScriptGrammar.{Heads, is_head_annotation, is_named, is_based, head as one_head, in_header, script}
 use Rattle.gd_parser.specs.declared.script.FoundHeads.{FoundHeads}
-
--- whether the token stands in a header that ends at this place
-abbrev pub in_header : List Token → Place → ℕ → Bool
-in_header tokens header_end = λ at. is_before (place_at tokens at) header_end
 
 abbrev pub heads_of : FoundHeads → Heads
 heads_of f = (f.heads, f.behind.items)
@@ -23,10 +17,6 @@ heads_of f = (f.heads, f.behind.items)
 -- for rules that do not ask where the header ends
 abbrev pub anywhere : ℕ → Bool
 anywhere = λ at. true
-
--- a name that stands on the line of a place
-abbrev pub line_name : List Token → Place → Reading Identifier
-line_name tokens place = Look (λ at. place.line == (place_at tokens at).line) (name_by tokens anywhere)
 
 module _ (tokens : List Token) (header_end : Place) where
   -- a head, or an annotation that may be one

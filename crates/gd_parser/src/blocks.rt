@@ -12,7 +12,7 @@ use crate::declarations::{expr, new_name, optional_type};
 use crate::lists::one;
 use crate::statements::{line, line_block};
 use gd_exprs::reader::{due, fault_at, mark_at, place_at, sees, skip};
-use gd_syntax::{Expr, FaultKind, Mark, Place, SolveError, Sought, Stmt, Token};
+use gd_syntax::{Branch, Expr, FaultKind, Mark, Place, SolveError, Sought, Stmt, Token};
 use std::alloc::Global;
 use tree_lists::{Boxed, Items};
 
@@ -55,27 +55,33 @@ where
         (self.inner)(self.alloc, self.tokens, at, self.room)
     }
 
-    /// A condition and its block, behind the keyword at `at`.
-    fn branch(&self, at: usize) -> Result<(Expr, Items<Stmt>, usize), SolveError>
+    /// The branch of the keyword at `at`.
+    fn branch(&self, at: usize) -> Result<(Branch, usize), SolveError>
         requires nests { NestsBlocks self.now.room (F.pre self.now.inner) (F.post self.now.inner) }
         requires within { at < length self.now.tokens.now }
         requires ended { IsEnded self.now.tokens.now }
         requires goes_on { mark_at self.now.tokens.now at ≢ Some Mark.End }
-        ensures reads { Answers (λ found. Read (found.0, found.1) found.2) result (spec.branch self.now.tokens.now self.now.room at) }
-        ensures within { IfOk result (λ found. found.2 < length self.now.tokens.now) }
-        ensures after { IfOk result (λ found. at < found.2) }
+        ensures reads { Answers (λ found. Read found.0 found.1) result (spec.branch self.now.tokens.now self.now.room at) }
+        ensures within { IfOk result (λ found. found.1 < length self.now.tokens.now) }
+        ensures after { IfOk result (λ found. at < found.1) }
     {
+        let place = place_at(self.tokens, at);
         let (condition, next) = headed(self.alloc, self.tokens, skip(self.tokens, at))?;
         let (body, end) = self.inner(next)?;
-        Ok((condition.into_inner(), body, end))
+        let branch = Branch {
+            place,
+            condition: condition.into_inner(),
+            body,
+        };
+        Ok((branch, end))
     }
 
     /// The branches of an `if` behind the first.
     fn elifs(
         &self,
         start: usize,
-        first: Items<(Expr, Items<Stmt>)>,
-    ) -> Result<(Items<(Expr, Items<Stmt>)>, usize), SolveError>
+        first: Items<Branch>,
+    ) -> Result<(Items<Branch>, usize), SolveError>
         requires nests { NestsBlocks self.now.room (F.pre self.now.inner) (F.post self.now.inner) }
         requires within { start < length self.now.tokens.now }
         requires ended { IsEnded self.now.tokens.now }
@@ -86,8 +92,8 @@ where
         let mut all = first;
         let mut at = start;
         'branches: while sees(self.tokens, at, Mark::Elif) {
-            let (condition, body, next) = self.branch(at)?;
-            all.push((condition, body))?;
+            let (branch, next) = self.branch(at)?;
+            all.push(branch)?;
             at = next;
         }
         Ok((all, at))
@@ -125,8 +131,8 @@ where
         ensures after { IfOk result (λ found. at < found.1) }
     {
         let place = place_at(self.tokens, at);
-        let (condition, body, next) = self.branch(at)?;
-        let first = one(self.alloc, (condition, body))?;
+        let (branch, next) = self.branch(at)?;
+        let first = one(self.alloc, branch)?;
         let (all, middle) = self.elifs(next, first)?;
         let (other, end) = self.other(middle)?;
         Ok((Stmt::If(place, all, other), end))
@@ -143,14 +149,18 @@ where
     {
         let place = place_at(self.tokens, at);
         let (name, next) = new_name(self.tokens, skip(self.tokens, at))?;
-        let (kind, middle) = optional_type(self.alloc, self.tokens, next, Sought::Other)?;
+        let (type_name, middle) = optional_type(self.alloc, self.tokens, next, Sought::Other)?;
         let start = due(self.tokens, middle, Sought::Other, Mark::In)?;
         let (subject, open) = headed(self.alloc, self.tokens, start)?;
         let (body, end) = self.inner(open)?;
-        Ok((
-            Stmt::For(place, name, kind, subject.into_inner(), body),
-            end,
-        ))
+        let statement = Stmt::For {
+            place,
+            name,
+            type_name,
+            subject: subject.into_inner(),
+            body,
+        };
+        Ok((statement, end))
     }
 
     fn while_statement(&self, at: usize) -> Result<(Stmt, usize), SolveError>
@@ -163,7 +173,12 @@ where
         ensures after { IfOk result (λ found. at < found.1) }
     {
         let place = place_at(self.tokens, at);
-        let (condition, body, end) = self.branch(at)?;
+        let (branch, end) = self.branch(at)?;
+        let Branch {
+            condition,
+            body,
+            ..
+        } = branch;
         Ok((Stmt::While(place, condition, body), end))
     }
 

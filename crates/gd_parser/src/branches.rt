@@ -11,7 +11,7 @@ use crate::found_patterns::FoundPattern;
 use crate::lists::one;
 use crate::patterns::pattern;
 use gd_exprs::reader::{due, refuse, sees, skip};
-use gd_syntax::{Mark, Pattern, SolveError, Sought, Stmt, Token};
+use gd_syntax::{Mark, MatchBranch, Pattern, SolveError, Sought, Stmt, Token};
 use std::alloc::Global;
 use tree_lists::Items;
 
@@ -64,25 +64,26 @@ where
     F: Fn(Global, &[Token], usize, usize) -> Result<(Items<Stmt>, usize), SolveError>,
 {
     /// The patterns of a branch and its block.
-    fn match_branch(&self, start: usize) -> Result<(Items<Pattern>, Items<Stmt>, usize), SolveError>
+    fn match_branch(&self, start: usize) -> Result<(MatchBranch, usize), SolveError>
         requires nests { NestsBlocks self.now.room (F.pre self.now.inner) (F.post self.now.inner) }
         requires within { start < length self.now.tokens.now }
         requires ended { IsEnded self.now.tokens.now }
-        ensures reads { Answers (λ found. Read (found.0, found.1) found.2) result (spec.match_branch self.now.tokens.now self.now.room start) }
-        ensures within { IfOk result (λ found. found.2 < length self.now.tokens.now) }
-        ensures after { IfOk result (λ found. start < found.2) }
+        ensures reads { Answers (λ found. Read found.0 found.1) result (spec.match_branch self.now.tokens.now self.now.room start) }
+        ensures within { IfOk result (λ found. found.1 < length self.now.tokens.now) }
+        ensures after { IfOk result (λ found. start < found.1) }
     {
         let (all, head) = patterns(self.alloc, self.tokens, start)?;
         let open = due(self.tokens, head, Sought::Other, Mark::Colon)?;
         let (body, end) = self.inner(open)?;
-        Ok((all, body, end))
+        let branch = MatchBranch {
+            patterns: all,
+            body,
+        };
+        Ok((branch, end))
     }
 
     /// The branches of a `match`, up to the end of its body.
-    pub fn match_branches(
-        &self,
-        start: usize,
-    ) -> Result<(Items<(Items<Pattern>, Items<Stmt>)>, usize), SolveError>
+    pub fn match_branches(&self, start: usize) -> Result<(Items<MatchBranch>, usize), SolveError>
         requires nests { NestsBlocks self.now.room (F.pre self.now.inner) (F.post self.now.inner) }
         requires within { start < length self.now.tokens.now }
         requires ended { IsEnded self.now.tokens.now }
@@ -93,8 +94,8 @@ where
         let mut branches = Items::new(self.alloc);
         let mut at = start;
         'branches: while !sees(self.tokens, at, Mark::Dedent) {
-            let (all, body, next) = self.match_branch(at)?;
-            branches.push((all, body))?;
+            let (branch, next) = self.match_branch(at)?;
+            branches.push(branch)?;
             at = next;
         }
         Ok((branches, at))

@@ -11,10 +11,6 @@ mod lists;
 mod members;
 mod patterns;
 mod script;
-#[cfg(test)]
-mod statement_tests;
 mod statements;
-#[cfg(test)]
-mod tests;
 
 pub use script::parse;

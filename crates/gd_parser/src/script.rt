@@ -7,14 +7,14 @@ ghost use Rattle.gd_syntax.specs.TokenReading.{IsEnded, mark_at, place_at};
 ghost use Rattle.gd_syntax.specs.MemberGrammar.{is_field_annotation};
 ghost use Rattle.gd_syntax.specs.ScriptGrammar as spec;
 ghost use Rattle.gd_syntax.specs.declared.tree.member.Script.{Script};
-ghost use Rattle.gd_parser.specs.Files.{anywhere, heads_of, head, line_name, name_refused, base_refused, HasFlags, IsParsed, GivesTree};
+ghost use Rattle.gd_parser.specs.Files.{anywhere, heads_of, head, name_refused, base_refused, HasFlags, IsParsed, GivesTree};
 
 use crate::classes::{FoundMembers, member_list};
 use crate::declarations::{Owner, annot, is_field_word, is_head_word, new_name};
 use crate::members::{annotated, base};
-use gd_exprs::reader::{due, mark_at, place_at, refuse, sees, skip};
+use gd_exprs::reader::{due, kind_at, mark_at, place_at, refuse, sees, skip};
 use gd_syntax::{
-    Annotation, Base, Head, Identifier, Mark, Member, Place, Script, SolveError, Sought, Token,
+    Annotation, Base, Head, Kind, Mark, Member, Place, Script, SolveError, Sought, Token,
 };
 use std::alloc::{AllocError, Global};
 use tree_lists::Items;
@@ -124,25 +124,6 @@ fn with_head(alloc: Global, sofar: FoundHeads, head: Head) -> Result<FoundHeads,
     })
 }
 
-/// The name of the file's class is due on the line of `class_name`.
-fn name_on_line(
-    tokens: &[Token],
-    at: usize,
-    place: Place,
-) -> Result<(Identifier, usize), SolveError>
-    requires within { at < length tokens.now }
-    requires ended { IsEnded tokens.now }
-    ensures reads { Answers (λ found. Read found.0 found.1) result (line_name tokens.now place at) }
-    ensures within { IfOk result (λ found. found.1 < length tokens.now) }
-    ensures next { IfOk result (λ found. found.1 ≡ at + 1) }
-{
-    let here = place_at(tokens, at);
-    if place.line == here.line {
-        return new_name(tokens, at);
-    }
-    Err(refuse(tokens, at, Sought::Other))
-}
-
 /// `extends` and its base behind a name, which may be missing, and are where the file has a base.
 fn class_name_base(
     alloc: Global,
@@ -181,7 +162,7 @@ fn class_name(
     ensures after { IfOk result (λ found. at < found.1) }
 {
     let place = place_at(tokens, at);
-    let (name, next) = name_on_line(tokens, skip(tokens, at), place)?;
+    let (name, next) = new_name(tokens, skip(tokens, at))?;
     let (tree, end) = class_name_base(alloc, tokens, next, based)?;
     let line = due(tokens, end, Sought::Other, Mark::Newline)?;
     Ok((Head::ClassName(place, name, tree), line))
@@ -202,13 +183,29 @@ fn extends(alloc: Global, tokens: &[Token], at: usize) -> Result<(Head, usize), 
     Ok((Head::Extends(place, tree), line))
 }
 
+/// Whether the name of the `class_name` stands on a later line.
+fn is_name_below(tokens: &[Token], at: usize) -> bool
+    requires within { at < length tokens.now }
+    requires ended { IsEnded tokens.now }
+    requires goes_on { token.mark_at tokens.now at ≢ Some Mark.End }
+    ensures { result ≡ spec.is_name_below tokens.now at }
+{
+    let next = skip(tokens, at);
+    match kind_at(tokens, next) {
+        Kind::Name(_) => place_at(tokens, at).line < place_at(tokens, next).line,
+        _ => false,
+    }
+}
+
 /// Whether no `class_name` may stand there.
 fn refuses_name(tokens: &[Token], at: usize, header_end: Place, sofar: &FoundHeads) -> bool
     requires within { at < length tokens.now }
+    requires ended { IsEnded tokens.now }
+    requires begins { mark_at tokens.now at ≡ Some Mark.ClassName }
     requires flags { HasFlags sofar.now }
     ensures { result ≡ name_refused tokens.now header_end sofar.now at }
 {
-    let is_known = is_before(place_at(tokens, at), header_end);
+    let is_known = is_before(place_at(tokens, at), header_end) && !is_name_below(tokens, at);
     sofar.behind_field || is_named(&sofar.heads) || !is_known
 }
 

@@ -35,9 +35,9 @@ fn is_target(tree: &Expr) -> bool
         | Expr::Is(..)
         | Expr::IsNot(..)
         | Expr::Prefix(..)
-        | Expr::Binary(..)
+        | Expr::Binary { .. }
         | Expr::Not(..)
-        | Expr::Ternary(..)
+        | Expr::Ternary { .. }
         | Expr::As(..) => false,
     }
 }
@@ -148,7 +148,13 @@ fn assigned(
     ensures after { IfOk result (λ found. at < found.1) }
 {
     let (value, next) = expr(alloc, tokens, skip(tokens, at))?;
-    Ok((Simple::Assign(place, target, op, value), next))
+    let statement = Simple::Assign {
+        place,
+        target,
+        op,
+        value,
+    };
+    Ok((statement, next))
 }
 
 /// An expression, or an assignment to it.

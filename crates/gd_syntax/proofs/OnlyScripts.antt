@@ -11,7 +11,7 @@ use Rattle.gd_syntax.specs.declared.tree.member.Member.{Member}
 use Rattle.gd_syntax.specs.declared.stops.Sought.TheVariants.{Other}
 use Rattle.gd_syntax.specs.TokenReading.{place_at}
 use Rattle.gd_syntax.specs.MemberGrammar.{max_open_classes, is_field_annotation, class_block}
-use Rattle.gd_syntax.specs.ScriptGrammar.{Heads, is_head_annotation, may_follow, is_named, is_based, is_before, base_by, name_by, class_name, extends, head_by, head, first_member, no_member, rest, file_by, file, script}
+use Rattle.gd_syntax.specs.ScriptGrammar.{Heads, is_head_annotation, may_follow, is_named, is_based, base_by, class_name, extends, head_by, head, first_member, no_member, rest, file_by, file, in_header, script}
 use Rattle.gd_syntax.proofs.Only.{Only, only_is, only_then, only_look, only_loop, only_either, only_skip, only_due}
 use Rattle.gd_syntax.proofs.OnlyDeclarations.{only_new_name, only_annot}
 use Rattle.gd_syntax.proofs.OnlyMembers.{only_base, only_extends_by, only_annotated, only_members, only_class_block}
@@ -22,12 +22,8 @@ module _ (tokens : List Token) where
     only_base_by based (Some m.Extends) = only_either based _ _ (only_is _) (only_extends_by tokens (Some m.Extends))
     only_base_by based _ = only_is _
 
-    only_name_by : (b : Bool) → Only (name_by tokens found b)
-    only_name_by true = only_new_name tokens
-    only_name_by false = only_is _
-
     only_class_name : (based : Bool) (place : Place) → Only (class_name tokens found based place)
-    only_class_name based place = only_then _ _ (only_skip tokens) (λ _. only_then _ _ (only_look _ _ only_name_by)
+    only_class_name based place = only_then _ _ (only_skip tokens) (λ _. only_then _ _ (only_new_name tokens)
         (λ name. only_then _ _ (only_look _ _ (only_base_by based)) (λ b. only_then _ _ (only_due tokens Other m.Newline) (λ _. only_is _))))
 
     only_extends : (place : Place) → Only (extends tokens found place)
@@ -63,4 +59,4 @@ module _ (tokens : List Token) where
     only_file at = only_then _ _ (only_loop _ only_head ([], [])) (λ sofar. only_look _ _ (only_file_by (place_at tokens at) sofar)) at
 
   pub only_script : (header_end : Place) → Only (script tokens header_end)
-  only_script header_end = only_file (λ at. is_before (place_at tokens at) header_end)
+  only_script header_end = only_file (in_header tokens header_end)

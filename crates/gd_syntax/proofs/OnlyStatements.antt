@@ -11,13 +11,15 @@ use Rattle.gd_syntax.specs.declared.tree.expr.Literal.{Literal}
 use Rattle.gd_syntax.specs.declared.tree.member.Annotation.{Annotation}
 use Rattle.gd_syntax.specs.declared.tree.pattern.Pattern.{Pattern}
 use Rattle.gd_syntax.specs.declared.tree.statement.AssignOp.{AssignOp}
+use Rattle.gd_syntax.specs.declared.tree.statement.Branch.{Branch}
+use Rattle.gd_syntax.specs.declared.tree.statement.MatchBranch.{MatchBranch}
 use Rattle.gd_syntax.specs.declared.tree.statement.Simple.{Simple}
 use Rattle.gd_syntax.specs.declared.tree.statement.Stmt.{Stmt}
 use Rattle.gd_syntax.specs.Reading.{Reading}
 use Rattle.gd_syntax.specs.declared.stops.Sought.TheVariants.{Other}
 use Rattle.gd_syntax.specs.TokenReading.{max_levels, place_at}
 use Rattle.gd_syntax.specs.DeclarationGrammar.{is_ignore_word}
-use Rattle.gd_syntax.specs.StatementGrammar.{binds, unbound_other_by, unbound_by, unbound_form, unbound, pats_by, pats, word, return_by, message_by, assertion, assign_by, assignment, local_var, annotated_by, simple_by, simple, parted_by, line_by, line_form, line, line_block, branch, elif_by, else_by, if_stmt, for_stmt, while_stmt, match_by, match_stmt, stmt_by, stmt, body_by, block_by, block}
+use Rattle.gd_syntax.specs.StatementGrammar.{binds, unbound_other_by, unbound_by, unbound_form, unbound, pats_by, pats, word, return_by, message_by, assertion, assign_by, assignment, local_var, annotated_by, simple_by, simple, parted_by, line_by, line_form, line, line_block, branch, elif_by, else_by, if_stmt, for_stmt, while_stmt, match_branch, match_by, match_stmt, stmt_by, stmt, body_by, block_by, block}
 use Rattle.gd_syntax.proofs.Only.{Only, only_is, only_then, only_look, only_loop, only_either, only_skip, only_due}
 use Rattle.gd_syntax.proofs.OnlyPatterns.{only_other_by, only_pattern}
 use Rattle.gd_syntax.proofs.OnlyDeclarations.{only_expr, only_new_name, only_type_by, only_annots, only_var, only_const}
@@ -111,9 +113,9 @@ module _ (tokens : List Token) where
 
   module _ (inner : Reading (List Stmt)) (i : Only inner) where
     only_branch : Only (branch tokens inner)
-    only_branch = only_then _ _ (only_skip tokens) (λ _. only_then _ _ (only_expr tokens) (λ x. only_then _ _ (only_due tokens Other m.Colon) (λ _. only_then _ _ i (λ body. only_is _))))
+    only_branch at = only_then _ _ (only_skip tokens) (λ _. only_then _ _ (only_expr tokens) (λ x. only_then _ _ (only_due tokens Other m.Colon) (λ _. only_then _ _ i (λ body. only_is _)))) at
 
-    only_elif_by : (sofar : List (Expr × List Stmt)) (k : Option Mark) → Only (elif_by tokens inner sofar k)
+    only_elif_by : (sofar : List Branch) (k : Option Mark) → Only (elif_by tokens inner sofar k)
     only_elif_by sofar (Some m.Elif) = only_then _ _ only_branch (λ b. only_is _)
     only_elif_by sofar _ = only_is _
 
@@ -132,9 +134,12 @@ module _ (tokens : List Token) where
     only_while : (place : Place) → Only (while_stmt tokens inner place)
     only_while place = only_then _ _ only_branch (λ b. only_is _)
 
-    only_match_by : (sofar : List (List Pattern × List Stmt)) (k : Option Mark) → Only (match_by tokens inner sofar k)
+    only_match_branch : Only (match_branch tokens inner)
+    only_match_branch = only_then _ _ only_pats (λ all. only_then _ _ (only_due tokens Other m.Colon) (λ _. only_then _ _ i (λ block. only_is _)))
+
+    only_match_by : (sofar : List MatchBranch) (k : Option Mark) → Only (match_by tokens inner sofar k)
     only_match_by sofar (Some m.Dedent) = only_is _
-    only_match_by sofar _ = only_then _ _ only_pats (λ all. only_then _ _ (only_due tokens Other m.Colon) (λ _. only_then _ _ i (λ body. only_is _)))
+    only_match_by sofar _ = only_then _ _ only_match_branch (λ b. only_is _)
 
     only_match : (place : Place) → Only (match_stmt tokens inner place)
     only_match place = only_then _ _ (only_skip tokens) (λ _. only_then _ _ (only_expr tokens) (λ x. only_then _ _ (only_due tokens Other m.Colon)

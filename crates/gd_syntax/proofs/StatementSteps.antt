@@ -8,6 +8,8 @@ use Rattle.gd_syntax.specs.declared.token.Mark.TheVariants as m
 use Rattle.gd_syntax.specs.declared.tree.expr.Expr.{Expr}
 use Rattle.gd_syntax.specs.declared.tree.member.Member.{Member}
 use Rattle.gd_syntax.specs.declared.tree.pattern.Pattern.{Pattern}
+use Rattle.gd_syntax.specs.declared.tree.statement.Branch.{Branch}
+use Rattle.gd_syntax.specs.declared.tree.statement.MatchBranch.{MatchBranch}
 use Rattle.gd_syntax.specs.declared.tree.statement.Simple.{Simple}
 use Rattle.gd_syntax.specs.declared.tree.statement.Simple.TheVariants as simply
 use Rattle.gd_syntax.specs.declared.tree.statement.Stmt.{Stmt}
@@ -15,7 +17,7 @@ use Rattle.gd_syntax.specs.Reading.{Outcome, Reading, ◌>>=◌, ◌>>◌, give,
 use Rattle.gd_syntax.specs.declared.stops.Sought.TheVariants.{Other}
 use Rattle.gd_syntax.specs.TokenReading.{mark_at, Due}
 use Rattle.gd_syntax.specs.DeclarationGrammar.{expr}
-use Rattle.gd_syntax.specs.StatementGrammar.{unbound_form, full_unbound, unbound, pats_by, pats, return_by, message_by, assignment, simple_by, simple, parted_by, line_by, line, line_block, elif_by, else_by, match_by, stmt_by, stmt, body_by, too_deep, block_by, block}
+use Rattle.gd_syntax.specs.StatementGrammar.{unbound_form, full_unbound, unbound, pats_by, return_by, message_by, assignment, simple_by, simple, parted_by, line_by, line, line_block, elif_by, else_by, match_branch, match_by, stmt_by, stmt, body_by, too_deep, block_by, block}
 use Rattle.gd_syntax.specs.MemberGrammar.{members, class_block}
 
 module _ (tokens : List Token) where
@@ -115,11 +117,11 @@ module _ (tokens : List Token) where
   line_none sofar at o x h = looks refl (line_none_by sofar (mark_at tokens at) at o x h)
 
   module _ (inner : Reading (List Stmt)) where
-    elif_none_by : (sofar : List (Expr × List Stmt)) (k : Option Mark) (at : ℕ) (o : Outcome (Turn (List (Expr × List Stmt)))) → k ≢ Some m.Elif → (give (Last sofar)) at o → elif_by tokens inner sofar k at o
+    elif_none_by : (sofar : List Branch) (k : Option Mark) (at : ℕ) (o : Outcome (Turn (List Branch))) → k ≢ Some m.Elif → (give (Last sofar)) at o → elif_by tokens inner sofar k at o
     elif_none_by sofar (Some m.Elif) at o x h = absurd (x refl)
     elif_none_by sofar _ at o x h = h
 
-    pub elif_none : (sofar : List (Expr × List Stmt)) (at : ℕ) (o : Outcome (Turn (List (Expr × List Stmt)))) → mark_at tokens at ≢ Some m.Elif → (give (Last sofar)) at o → Look (mark_at tokens) (elif_by tokens inner sofar) at o
+    pub elif_none : (sofar : List Branch) (at : ℕ) (o : Outcome (Turn (List Branch))) → mark_at tokens at ≢ Some m.Elif → (give (Last sofar)) at o → Look (mark_at tokens) (elif_by tokens inner sofar) at o
     elif_none sofar at o x h = looks refl (elif_none_by sofar (mark_at tokens at) at o x h)
 
     else_none_by : (k : Option Mark) (at : ℕ) (o : Outcome (Option (List Stmt))) → k ≢ Some m.Else → (give None) at o → else_by tokens inner k at o
@@ -129,11 +131,11 @@ module _ (tokens : List Token) where
     pub else_none : (at : ℕ) (o : Outcome (Option (List Stmt))) → mark_at tokens at ≢ Some m.Else → (give None) at o → Look (mark_at tokens) (else_by tokens inner) at o
     else_none at o x h = looks refl (else_none_by (mark_at tokens at) at o x h)
 
-    match_further_by : (sofar : List (List Pattern × List Stmt)) (k : Option Mark) (at : ℕ) (o : Outcome (Turn (List (List Pattern × List Stmt)))) → k ≢ Some m.Dedent → (do all ← pats tokens; Due tokens Other m.Colon; body ← inner; give (On (sofar ++ (all, body) ∷ []))) at o → match_by tokens inner sofar k at o
+    match_further_by : (sofar : List MatchBranch) (k : Option Mark) (at : ℕ) (o : Outcome (Turn (List MatchBranch))) → k ≢ Some m.Dedent → (do b ← match_branch tokens inner; give (On (sofar ++ b ∷ []))) at o → match_by tokens inner sofar k at o
     match_further_by sofar (Some m.Dedent) at o x h = absurd (x refl)
     match_further_by sofar _ at o x h = h
 
-    pub match_further : (sofar : List (List Pattern × List Stmt)) (at : ℕ) (o : Outcome (Turn (List (List Pattern × List Stmt)))) → mark_at tokens at ≢ Some m.Dedent → (do all ← pats tokens; Due tokens Other m.Colon; body ← inner; give (On (sofar ++ (all, body) ∷ []))) at o → Look (mark_at tokens) (match_by tokens inner sofar) at o
+    pub match_further : (sofar : List MatchBranch) (at : ℕ) (o : Outcome (Turn (List MatchBranch))) → mark_at tokens at ≢ Some m.Dedent → (do b ← match_branch tokens inner; give (On (sofar ++ b ∷ []))) at o → Look (mark_at tokens) (match_by tokens inner sofar) at o
     match_further sofar at o x h = looks refl (match_further_by sofar (mark_at tokens at) at o x h)
 
     body_further_by : (sofar : List Stmt) (k : Option Mark) (at : ℕ) (o : Outcome (Turn (List Stmt))) → k ≢ Some m.Dedent → (do x ← stmt tokens inner; give (On (sofar ++ x ∷ []))) at o → body_by tokens inner sofar k at o

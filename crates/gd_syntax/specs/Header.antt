@@ -6,9 +6,9 @@ use Rattle.std.specs.List.{prefix_len}
 use Rattle.unicode_ident.specs.Ident.{is_xid_continue}
 use Rattle.gd_syntax.specs.declared.fault.Place.{Place}
 use Rattle.gd_syntax.specs.declared.token.Mark.{Mark}
-use Rattle.gd_syntax.specs.declared.token.TheConstants.{KEYWORDS}
 use Rattle.gd_syntax.specs.Spellings.{begins, is_blank, is_quote, line_end_len, line_len, repeats, spelled, starts_word}
-use Rattle.gd_syntax.specs.Layout.{past, past_all, text_of}
+use Rattle.gd_syntax.specs.Layout.{past, past_all, text_of, text_start}
+use Rattle.gd_syntax.specs.Tokens.{keywords}
 
 -- a name and its place
 pub record Global : Type 0 where
@@ -48,7 +48,7 @@ abbrev pub name_behind : Place → List ℕ → Option Global
 name_behind place text =
     let n = prefix_len is_blank text in
     let name = word_of (drop n text) in
-    if begins starts_word (drop n text) then unless_keyword (spelled KEYWORDS name) (record { name = name; place = past_all place (take n text) }) else None
+    if begins starts_word (drop n text) then unless_keyword (spelled keywords name) (record { name = name; place = past_all place (take n text) }) else None
 
 -- How many characters there are from inside a string up to the end of the quotes that close it; none where nothing
 -- closes it. The character behind `\` closes nothing.
@@ -102,14 +102,10 @@ name_from n place [] = None
 name_from (suc n) place (c ∷ text) = name_from n (past place c) text
 name_from zero place (c ∷ text) = name_in (part_at (c ∷ text)) place (c ∷ text) (λ n. name_from n (past place c) text)
 
--- the place of the first character
-abbrev pub start : Place
-start = record { line = 1; column = 1 }
-
 -- the global name of a file; behind a bad byte there is no text
 abbrev pub global_of : List ℕ → Option Global
-global_of bytes = name_from 0 start (header_text (text_of bytes))
+global_of bytes = name_from 0 text_start (header_text (text_of bytes))
 
 -- where the header of a file ends: the place just past its last character
 abbrev pub header_end_of : List ℕ → Place
-header_end_of bytes = past_all start (header_text (text_of bytes))
+header_end_of bytes = past_all text_start (header_text (text_of bytes))

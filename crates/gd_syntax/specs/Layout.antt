@@ -22,6 +22,9 @@ use Rattle.gd_syntax.specs.Spellings.{Found, space, gap, line_end, token, wrong,
 
 -- Places.
 
+abbrev pub text_start : Place
+text_start = record { line = 1; column = 1 }
+
 -- the place behind a character
 abbrev pub past : Place → ℕ → Place
 past place c = if c == 10 then record { line = place.line + 1; column = 1 } else record { line = place.line; column = place.column + 1 }
@@ -234,22 +237,24 @@ abbrev pub first_place : List Token → Ending → Option Place
 first_place [] ending = ending_start ending
 first_place (t ∷ tokens) ending = Some t.place
 
-abbrev pub is_bad_token : FaultKind → Bool
-is_bad_token BadToken = true
-is_bad_token _ = false
+-- whether a fault comes before `BadIndent` at one place
+abbrev pub precedes_depth : FaultKind → Bool
+precedes_depth BadBytes = true
+precedes_depth BadToken = true
+precedes_depth _ = false
 
 abbrev pub same_place : Place → Place → Bool
 same_place a b = a.line == b.line && a.column == b.column
 
--- whether a `BadToken` stands first on its line
-abbrev pub begins_badly : List Token → Ending → Bool
-begins_badly [] (breaks place fault) = is_bad_token fault.kind && same_place fault.place place
-begins_badly _ _ = false
+-- The fault of a line of a wrong depth, at what stands first on it: `BadIndent`, or that of a bad byte or of no token.
+abbrev pub depth_kind : List Token → Ending → FaultKind
+depth_kind [] (breaks place fault) = if precedes_depth fault.kind && same_place fault.place place then fault.kind else BadIndent
+depth_kind _ _ = BadIndent
 
--- What is wrong with a line whose blanks are wrong. At one place `BadToken` comes before `BadIndent`.
+-- what is wrong with a line whose blanks are wrong
 abbrev pub indent_fault : FaultKind → Line → Place → LoadFault
 indent_fault MixedIndent line first = at MixedIndent (record { line = line.start.line; column = 1 })
-indent_fault _ line first = at (if begins_badly line.tokens line.ending then BadToken else BadIndent) first
+indent_fault _ line first = at (depth_kind line.tokens line.ending) first
 
 -- at the end of the text each of the open blocks is closed
 abbrev pub closing : Place → ℕ → List Token
@@ -284,10 +289,6 @@ unfoldable pub tokens_of : Layout → List Line → Answer
 tokens_of layout [] = Ok []
 tokens_of layout (line ∷ lines) = laid_onto (first_place line.tokens line.ending) layout line (λ after. tokens_of after lines)
 
--- the tokens of a text
-abbrev pub tokens_in : List ℕ → Answer
-tokens_in text = tokens_of first_layout (lines_of [] (pieces 0 (record { line = 1; column = 1 }) text))
-
 -- The bytes.
 
 -- the characters of the longest front that is UTF-8, without a byte order mark at its start
@@ -300,17 +301,33 @@ abbrev pub is_unclosed : FaultKind → Bool
 is_unclosed Unclosed = true
 is_unclosed _ = false
 
--- where the text ends at a bad byte; `Unclosed` comes only where there is no other fault
-abbrev pub or_bad_bytes : Place → Answer → Answer
-or_bad_bytes place (Ok tokens) = Err (at BadBytes place)
-or_bad_bytes place (Err fault) = if is_unclosed fault.kind then Err (at BadBytes place) else Err fault
+-- the first byte of a file that is no UTF-8, which stands behind the text
+unfoldable pub bad_byte : List ℕ → Option LoadFault
+bad_byte bytes = if utf8_valid_len bytes == length bytes then None else Some (at BadBytes (past_all text_start (text_of bytes)))
+
+-- whether what stands behind the blanks of a line without tokens, up to this place, is a comment
+abbrev pub is_comment : List Token → Line → Place → Bool
+is_comment [] line place = place.line == line.start.line && nat_lt (length line.indent) (place.column - line.start.column)
+is_comment (t ∷ tokens) line place = false
+
+-- A bad byte breaks the line that it stands on, also inside brackets or a string. So that line is not blank, but the blanks
+-- before a comment do not count.
+abbrev pub broken : LoadFault → Line → Ending → Line
+broken fault line (stops place) = record line { indent = if is_comment line.tokens line place then [] else line.indent; ending = breaks place fault }
+broken fault line (unclosed place) = record line { ending = breaks place fault }
+broken fault line _ = line
+
+abbrev pub before_byte : Option LoadFault → Line → Line
+before_byte None line = line
+before_byte (Some fault) line = broken fault line line.ending
+
+-- the tokens of a text that ends at its file's end, or at a bad byte
+abbrev pub tokens_before : Option LoadFault → List ℕ → Answer
+tokens_before bad text = tokens_of first_layout (map (before_byte bad) (lines_of [] (pieces 0 text_start text)))
 
 -- the tokens of a file, or its first fault
 unfoldable pub tokens_in_bytes : List ℕ → Answer
-tokens_in_bytes bytes =
-    let text = text_of bytes in
-    if utf8_valid_len bytes == length bytes then tokens_in text
-    else or_bad_bytes (past_all (record { line = 1; column = 1 }) text) (tokens_in text)
+tokens_in_bytes bytes = tokens_before (bad_byte bytes) (text_of bytes)
 
 -- what `tokens` answers: the list or the fault, unless memory runs out
 abbrev pub IsAnswer : Result (Vec Token Global) SolveError → Answer → Type 0

@@ -1,7 +1,7 @@
 -- The longest front of a text that is spelled in a way.
 use Rattle.std.specs.Prelude.{◌≡◌, ℕ, ◌<◌, ◌≤◌, Bool, true, false, ◌&&◌, ◌==◌, if◌then◌else◌, List, [], ◌∷◌, length, take, is_some}
-use Rattle.gd_syntax.specs.declared.token.TheConstants.{SIGNS}
 use Rattle.gd_syntax.specs.Spellings.{is_digit, spelled}
+use Rattle.gd_syntax.specs.Tokens.{signs}
 
 -- the first n characters are spelled so, and no longer front is
 pub record IsLongest (is : List ℕ → Bool) (text : List ℕ) (n : ℕ) : Type 0 where
@@ -16,4 +16,4 @@ are_digits radix behind (c ∷ text) = if is_digit radix c then are_digits radix
 
 -- whether a sign is spelled so
 abbrev pub is_sign_text : List ℕ → Bool
-is_sign_text text = is_some (spelled SIGNS text)
+is_sign_text text = is_some (spelled signs text)

@@ -1,5 +1,5 @@
 -- The grammar of a file: its heads, and its members.
-use Rattle.std.specs.Prelude.{ℕ, Bool, true, false, not, ◌&&◌, ◌||◌, ◌==◌, nat_lt, List, [], ◌∷◌, ◌++◌, map, Option, Some, None}
+use Rattle.std.specs.Prelude.{ℕ, ◌+◌, Bool, true, false, not, ◌&&◌, ◌||◌, ◌==◌, nat_lt, List, [], ◌∷◌, ◌++◌, map, Option, Some, None, is_some}
 use Rattle.std.specs.List.{list_any}
 use Rattle.gd_syntax.specs.declared.fault.Place.{Place}
 use Rattle.gd_syntax.specs.declared.token.Token.{Token}
@@ -11,10 +11,9 @@ use Rattle.gd_syntax.specs.declared.tree.member.Head.{Head}
 use Rattle.gd_syntax.specs.declared.tree.member.Head.TheVariants as h
 use Rattle.gd_syntax.specs.declared.tree.member.Member.{Member}
 use Rattle.gd_syntax.specs.declared.tree.member.Script.{Script}
-use Rattle.gd_syntax.specs.declared.tree.type_name.Identifier.{Identifier}
 use Rattle.gd_syntax.specs.Reading.{Reading, ◌>>=◌, ◌>>◌, give, either, Look, Turn, On, Last, Loop}
 use Rattle.gd_syntax.specs.declared.stops.Sought.TheVariants.{Other}
-use Rattle.gd_syntax.specs.TokenReading.{mark_at, place_at, skip, refuse, Due}
+use Rattle.gd_syntax.specs.TokenReading.{any_name, kind_at, mark_at, place_at, skip, refuse, Due}
 use Rattle.gd_syntax.specs.DeclarationGrammar.{is_head_word, is_field_word, is_ignore_word, new_name, annot}
 use Rattle.gd_syntax.specs.MemberGrammar.{max_open_classes, is_field_annotation, base, extends_by, annotated, class_block, members}
 
@@ -77,15 +76,10 @@ module _ (tokens : List Token) where
     base_by based (Some m.Extends) = either based (refuse tokens Other) (extends_by tokens (Some m.Extends))
     base_by based _ = give None
 
-    -- the name stands on the line of `class_name`
-    abbrev pub name_by : Bool → Reading Identifier
-    name_by true = new_name tokens
-    name_by false = refuse tokens Other
-
     abbrev pub class_name : Bool → Place → Reading Head
     class_name based place = do
       skip tokens
-      name ← Look (λ at. place.line == (place_at tokens at).line) name_by
+      name ← new_name tokens
       b ← Look (mark_at tokens) (base_by based)
       Due tokens Other m.Newline
       give (h.ClassName place name b)
@@ -132,6 +126,14 @@ module _ (tokens : List Token) where
       sofar ← Loop head ([], [])
       Look (λ to. is_annotated (mark_at tokens to)) (file_by (place_at tokens at) sofar)) at
 
+  -- whether the token's name stands on a later line
+  abbrev pub is_name_below : ℕ → Bool
+  is_name_below at = is_some (any_name (kind_at tokens (at + 1))) && nat_lt (place_at tokens at).line (place_at tokens (at + 1)).line
+
+  -- the header has a `class_name` that stands before its end, unless its name stands on a later line
+  abbrev pub in_header : Place → ℕ → Bool
+  in_header header_end at = is_before (place_at tokens at) header_end && not (is_name_below at)
+
   -- a file whose header lines end at this place
   abbrev pub script : Place → Reading Script
-  script header_end = file (λ at. is_before (place_at tokens at) header_end)
+  script header_end = file (in_header header_end)

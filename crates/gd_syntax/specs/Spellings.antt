@@ -9,10 +9,9 @@ use Rattle.gd_syntax.specs.declared.fault.FaultKind.{FaultKind}
 use Rattle.gd_syntax.specs.declared.fault.FaultKind.TheVariants.{BadToken, NumberTooLarge, Unsupported}
 use Rattle.gd_syntax.specs.declared.fault.Form.TheVariants.{Float, RawString}
 use Rattle.gd_syntax.specs.declared.token.Mark.{Mark}
-use Rattle.gd_syntax.specs.declared.token.TheConstants.{KEYWORDS, SIGNS}
 use Rattle.gd_syntax.specs.declared.token.Kind.{Kind}
 use Rattle.gd_syntax.specs.declared.token.Kind.TheVariants.{Mark as Marked, Name, Int, Text}
-use Rattle.gd_syntax.specs.Tokens.{mark_text}
+use Rattle.gd_syntax.specs.Tokens.{mark_text, keywords, signs}
 
 -- what stands at a place, with the number of its characters
 pub data Found : Type 0 where
@@ -45,7 +44,7 @@ or_else (Some m) other = token (Marked m) (length (mark_text m))
 -- the longest sign of at most so many characters that begins the text
 unfoldable pub sign_at : ℕ → List ℕ → Found
 sign_at zero text = wrong BadToken 0
-sign_at (suc n) text = or_else (spelled SIGNS (take (suc n) text)) (sign_at n text)
+sign_at (suc n) text = or_else (spelled signs (take (suc n) text)) (sign_at n text)
 
 -- Words: all the characters that may go on an identifier ("Identifiers", "Keywords"; UAX 31, requirement R1, default
 -- identifiers, with `_` as one more character that may begin one).
@@ -66,7 +65,7 @@ word_at text =
     let n = prefix_len is_xid_continue text in
     let word = take n text in
     if bytes_eq word (codes "r") && begins is_quote (drop n text) then wrong (Unsupported RawString) 0
-    else token (keyword_or_name (spelled KEYWORDS word) word) n
+    else token (keyword_or_name (spelled keywords word) word) n
 
 -- Numbers: digits, with one `_` between two digits where one likes ("Literals").
 

@@ -19,6 +19,8 @@ use Rattle.gd_syntax.specs.declared.tree.pattern.Pattern.TheVariants as p
 use Rattle.gd_syntax.specs.declared.tree.pattern.PatternEntry.{PatternEntry}
 use Rattle.gd_syntax.specs.declared.tree.statement.AssignOp.{AssignOp}
 use Rattle.gd_syntax.specs.declared.tree.statement.AssignOp.TheVariants as op
+use Rattle.gd_syntax.specs.declared.tree.statement.Branch.{Branch}
+use Rattle.gd_syntax.specs.declared.tree.statement.MatchBranch.{MatchBranch}
 use Rattle.gd_syntax.specs.declared.tree.statement.Simple.{Simple}
 use Rattle.gd_syntax.specs.declared.tree.statement.Simple.TheVariants as simply
 use Rattle.gd_syntax.specs.declared.tree.statement.Stmt.{Stmt}
@@ -214,10 +216,15 @@ module _ (tokens : List Token) where
   -- `inner` reads a block inside the one that has begun.
   module _ (inner : Reading (List Stmt)) where
     -- a condition and its block, after the keyword
-    abbrev pub branch : Reading (Expr × List Stmt)
-    branch = do skip tokens; x ← expr tokens; Due tokens Other m.Colon; body ← inner; give (x, body)
+    abbrev pub branch : Reading Branch
+    branch = λ at. (do
+      skip tokens
+      x ← expr tokens
+      Due tokens Other m.Colon
+      all ← inner
+      give (record { place = place_at tokens at; condition = x; body = all })) at
 
-    abbrev pub elif_by : List (Expr × List Stmt) → Option Mark → Reading (Turn (List (Expr × List Stmt)))
+    abbrev pub elif_by : List Branch → Option Mark → Reading (Turn (List Branch))
     elif_by sofar (Some m.Elif) = do b ← branch; give (On (sofar ++ b ∷ []))
     elif_by sofar _ = give (Last sofar)
 
@@ -244,11 +251,14 @@ module _ (tokens : List Token) where
       give (s.For place name t x body)
 
     abbrev pub while_stmt : Place → Reading Stmt
-    while_stmt place = do b ← branch; give (s.While place b.0 b.1)
+    while_stmt place = do b ← branch; give (s.While place b.condition b.body)
 
-    abbrev pub match_by : List (List Pattern × List Stmt) → Option Mark → Reading (Turn (List (List Pattern × List Stmt)))
+    abbrev pub match_branch : Reading MatchBranch
+    match_branch = do all ← pats; Due tokens Other m.Colon; block ← inner; give (record { patterns = all; body = block })
+
+    abbrev pub match_by : List MatchBranch → Option Mark → Reading (Turn (List MatchBranch))
     match_by sofar (Some m.Dedent) = give (Last sofar)
-    match_by sofar _ = do all ← pats; Due tokens Other m.Colon; body ← inner; give (On (sofar ++ (all, body) ∷ []))
+    match_by sofar _ = do b ← match_branch; give (On (sofar ++ b ∷ []))
 
     abbrev pub match_stmt : Place → Reading Stmt
     match_stmt place = do

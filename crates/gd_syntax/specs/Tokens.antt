@@ -1,5 +1,5 @@
--- The spellings of keywords, operators and punctuation.
-use Rattle.std.specs.Prelude.{ℕ, List, codes}
+-- The keywords, operators and punctuation, and their spellings.
+use Rattle.std.specs.Prelude.{ℕ, List, [], ◌∷◌, codes}
 use Rattle.gd_syntax.specs.declared.token.Mark.{Mark}
 use Rattle.gd_syntax.specs.declared.token.Mark.TheVariants as m
 
@@ -95,3 +95,21 @@ mark_text m.Newline = codes ""
 mark_text m.Indent = codes ""
 mark_text m.Dedent = codes ""
 mark_text m.End = codes ""
+
+-- the keywords of the Godot manual's "GDScript reference", without `when`, which is one after a pattern alone
+abbrev pub keywords : List Mark
+keywords =
+    m.And ∷ m.As ∷ m.Assert ∷ m.Await ∷ m.Break ∷ m.Breakpoint ∷ m.Class ∷ m.ClassName ∷ m.Const ∷ m.Continue ∷
+    m.Elif ∷ m.Else ∷ m.Enum ∷ m.Extends ∷ m.No ∷ m.For ∷ m.Func ∷ m.If ∷ m.In ∷ m.Is ∷ m.Match ∷ m.Namespace ∷
+    m.Not ∷ m.Null ∷ m.Or ∷ m.Pass ∷ m.Preload ∷ m.Return ∷ m.This ∷ m.Signal ∷ m.Static ∷ m.Super ∷ m.Trait ∷ m.Yes ∷
+    m.Var ∷ m.Void ∷ m.While ∷ m.Yield ∷ []
+
+-- its operators, and the punctuation
+abbrev pub signs : List Mark
+signs =
+    m.Plus ∷ m.Minus ∷ m.Star ∷ m.Slash ∷ m.Percent ∷ m.Power ∷ m.ShiftLeft ∷ m.ShiftRight ∷ m.Amp ∷ m.Bar ∷ m.Caret ∷
+    m.Tilde ∷ m.Bang ∷ m.Equal ∷ m.Differ ∷ m.Less ∷ m.Greater ∷ m.LessEqual ∷ m.GreaterEqual ∷ m.AmpAmp ∷ m.BarBar ∷
+    m.Assign ∷ m.PlusAssign ∷ m.MinusAssign ∷ m.StarAssign ∷ m.SlashAssign ∷ m.PercentAssign ∷ m.PowerAssign ∷
+    m.ShiftLeftAssign ∷ m.ShiftRightAssign ∷ m.AmpAssign ∷ m.BarAssign ∷ m.CaretAssign ∷ m.ColonAssign ∷ m.Colon ∷
+    m.Semicolon ∷ m.Comma ∷ m.Dot ∷ m.DotDot ∷ m.Arrow ∷ m.LParen ∷ m.RParen ∷ m.LBracket ∷ m.RBracket ∷ m.LBrace ∷
+    m.RBrace ∷ m.At ∷ m.Dollar ∷ []

@@ -12,5 +12,5 @@ pub use member::{
     Signal, Var,
 };
 pub use pattern::{Pattern, PatternEntry};
-pub use statement::{AssignOp, Simple, Stmt};
-pub use type_name::{Declared, Identifier, PathText, TypeName};
+pub use statement::{AssignOp, Branch, MatchBranch, Simple, Stmt};
+pub use type_name::{Declared, ElementName, Identifier, PathText, TypeName};

@@ -4,9 +4,3 @@ pub mod Pieces
 pub mod Lists
 pub mod Ended
 pub mod Files
-pub mod Longest
-pub mod LongestSigns
-pub mod FirstFaults
-pub mod FaultPlaces
-pub mod FaultLines
-pub mod FirstOfFaults

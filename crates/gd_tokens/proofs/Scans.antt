@@ -9,18 +9,17 @@ use Rattle.std.proofs.lemmas.Bool.Decides.{nat_tests}
 use Rattle.std.specs.Char.{digit_value}
 use Rattle.std.specs.Str.Parse.{digits_value_after}
 use Rattle.gd_syntax.specs.declared.token.Mark.{Mark}
-use Rattle.gd_syntax.specs.declared.token.TheConstants.{SIGNS}
 use Rattle.gd_syntax.specs.declared.token.Kind.TheVariants.{Mark as Marked}
-use Rattle.gd_syntax.specs.Tokens.{mark_text}
+use Rattle.gd_syntax.specs.Tokens.{mark_text, signs}
 use Rattle.gd_syntax.specs.Spellings.{begins, repeats, spelled, sign_at, or_else, token}
 use Rattle.gd_tokens.specs.FoundParts.{begins_with}
 
-pub sign_some : (n : ℕ) (text : List ℕ) (m : Mark) → 0 < n → spelled SIGNS (take n text) ≡ Some m → sign_at n text ≡ token (Marked m) (length (mark_text m))
+pub sign_some : (n : ℕ) (text : List ℕ) (m : Mark) → 0 < n → spelled signs (take n text) ≡ Some m → sign_at n text ≡ token (Marked m) (length (mark_text m))
 unfolding sign_at
 sign_some zero text m some e = absurd (omega arith)
 sign_some (suc n) text m some e = ap (λ o. or_else o (sign_at n text)) e
 
-pub sign_none : (n : ℕ) (text : List ℕ) → 0 < n → spelled SIGNS (take n text) ≡ None → sign_at (n - 1) text ≡ sign_at n text
+pub sign_none : (n : ℕ) (text : List ℕ) → 0 < n → spelled signs (take n text) ≡ None → sign_at (n - 1) text ≡ sign_at n text
 unfolding sign_at
 sign_none zero text some e = absurd (omega arith)
 sign_none (suc n) text some e = let is : suc n - 1 ≡ n = omega arith in ap (λ k. sign_at k text) is ∙ sym (ap (λ o. or_else o (sign_at n text)) e)
@@ -99,10 +98,10 @@ unfolding spelled
 kept [] c text = refl
 kept (x ∷ marks) c text = kept_turn x marks c text (begins_with c x) refl (kept marks c text)
 
-pub kept_front : (signs : List Mark) (text : List ℕ) (c n : ℕ) → 0 < n → 1 ≤ length text → c ≡ get_or text 0 c → signs ≡ filter (begins_with c) SIGNS → spelled signs (take n text) ≡ spelled SIGNS (take n text)
-kept_front signs text c zero some one first is = absurd (omega arith)
-kept_front signs [] c (suc n) some one first is = absurd (omega arith)
-kept_front signs (d ∷ text) c (suc n) some one first is = ap (λ s. spelled s (d ∷ take n text)) (is ∙ ap (λ e. filter (begins_with e) SIGNS) first) ∙ kept SIGNS d (take n text)
+pub kept_front : (listed : List Mark) (text : List ℕ) (c n : ℕ) → 0 < n → 1 ≤ length text → c ≡ get_or text 0 c → listed ≡ filter (begins_with c) signs → spelled listed (take n text) ≡ spelled signs (take n text)
+kept_front listed text c zero some one first is = absurd (omega arith)
+kept_front listed [] c (suc n) some one first is = absurd (omega arith)
+kept_front listed (d ∷ text) c (suc n) some one first is = ap (λ s. spelled s (d ∷ take n text)) (is ∙ ap (λ e. filter (begins_with e) signs) first) ∙ kept signs d (take n text)
 
 pub kept_word : (some marks : List Mark) (word : List ℕ) (c : ℕ) → 1 ≤ length word → c ≡ get_or word 0 c → some ≡ filter (begins_with c) marks → spelled some word ≡ spelled marks word
 kept_word some marks [] c one first is = absurd (omega arith)

@@ -3,5 +3,3 @@ pub mod StringParts
 pub mod LineParts
 pub mod LayoutParts
 pub mod ListParts
-pub mod Laws
-pub mod FaultOrder

@@ -2,14 +2,14 @@
 ghost use Rattle.std.specs.Prelude.{◌≡◌};
 ghost use Rattle.std.specs.List.{filter};
 ghost use Rattle.gd_syntax.specs.Spellings.{spelled};
-ghost use Rattle.gd_syntax.specs.declared.token.TheConstants.{KEYWORDS};
+ghost use Rattle.gd_syntax.specs.Tokens.{keywords};
 ghost use Rattle.gd_tokens.specs.FoundParts.{begins_with};
 
 use gd_syntax::{KEYWORDS, Mark};
 
 /// The keywords that begin with this character.
 fn keywords_from(c: char) -> &'static [Mark]
-    ensures { result.now ≡ filter (begins_with c) KEYWORDS }
+    ensures { result.now ≡ filter (begins_with c) keywords }
 {
     match c {
         'a' => &[Mark::And, Mark::As, Mark::Assert, Mark::Await],
@@ -34,7 +34,7 @@ fn keywords_from(c: char) -> &'static [Mark]
 
 /// Those of the keywords that may be spelled so.
 pub fn keywords_for(word: &[char]) -> &'static [Mark]
-    ensures { spelled result.now word.now ≡ spelled KEYWORDS word.now }
+    ensures { spelled result.now word.now ≡ spelled keywords word.now }
 {
     match word {
         [c, ..] => keywords_from(*c),

@@ -1,7 +1,8 @@
 // The list of tokens.
-ghost use Rattle.std.specs.Prelude.{◌≡◌, ℕ, ◌++◌, ◌∷◌, [], Bool, length, replicate, OnOk};
+ghost use Rattle.std.specs.Prelude.{◌≡◌, ℕ, ◌++◌, ◌∷◌, ◌&&◌, [], Bool, if◌then◌else◌, length, replicate, OnOk};
+ghost use Rattle.gd_syntax.specs.declared.fault.FaultKind.TheVariants.{BadIndent};
 ghost use Rattle.gd_syntax.specs.declared.token.Mark.TheVariants.{Dedent};
-ghost use Rattle.gd_syntax.specs.Layout.{Answer, Layout as LaidOut, begins_badly, closing, ends_in_colon, first_place, indent_fault, is_bad_token, is_colon, laid_onto, line_tail, mark_at, marks_at, newline, same_place};
+ghost use Rattle.gd_syntax.specs.Layout.{Answer, Layout as LaidOut, closing, depth_kind, ends_in_colon, first_place, indent_fault, is_colon, laid_onto, line_tail, mark_at, marks_at, newline, precedes_depth, same_place};
 ghost use Rattle.gd_syntax.specs.TokenReading.{IsEnded};
 ghost use Rattle.gd_tokens.specs.LayoutParts.{layout_of, marks_of};
 ghost use Rattle.gd_tokens.specs.LineParts.{ending_of, line_of};
@@ -53,33 +54,47 @@ fn first_place(line: &Line) -> Option<Place>
     }
 }
 
-fn is_bad_token(kind: FaultKind) -> bool
-    ensures { result ≡ is_bad_token kind }
+/// Whether a fault comes before `BadIndent` at one place.
+fn precedes_depth(kind: FaultKind) -> bool
+    ensures { result ≡ precedes_depth kind }
 {
     match kind {
-        FaultKind::BadToken => true,
+        FaultKind::BadBytes | FaultKind::BadToken => true,
         _ => false,
     }
 }
 
-/// Whether a line begins with what no token begins with.
-fn begins_badly(line: &Line) -> bool
-    ensures { result ≡ begins_badly line.now.tokens.items (ending_of line.now.ending) }
+fn is_same(a: Place, b: Place) -> bool
+    ensures { result ≡ same_place a b }
 {
-    if let [_, ..] = line.tokens.as_slice() {
-        return false;
-    }
-    match line.ending {
-        Ending::Breaks(place, fault) => {
-            is_bad_token(fault.kind)
-                && fault.place.line == place.line
-                && fault.place.column == place.column
-        }
-        Ending::Ends(_) | Ending::Stops(_) | Ending::Unclosed(_) => false,
+    a.line == b.line && a.column == b.column
+}
+
+/// The kind of what comes at a place that begins with this fault and has a wrong depth.
+fn worse_kind(place: Place, fault: LoadFault) -> FaultKind
+    ensures { result ≡ (if precedes_depth fault.kind && same_place fault.place place then fault.kind else BadIndent) }
+{
+    if precedes_depth(fault.kind) && is_same(fault.place, place) {
+        fault.kind
+    } else {
+        FaultKind::BadIndent
     }
 }
 
-/// What is wrong with a line whose blanks are wrong. At one place `BadToken` comes before `BadIndent`.
+/// The kind of the fault of a line of a wrong depth.
+fn depth_kind(line: &Line) -> FaultKind
+    ensures { result ≡ depth_kind line.now.tokens.items (ending_of line.now.ending) }
+{
+    if let [_, ..] = line.tokens.as_slice() {
+        return FaultKind::BadIndent;
+    }
+    match line.ending {
+        Ending::Breaks(place, fault) => worse_kind(place, fault),
+        Ending::Ends(_) | Ending::Stops(_) | Ending::Unclosed(_) => FaultKind::BadIndent,
+    }
+}
+
+/// What is wrong with a line whose blanks are wrong.
 fn indent_fault(kind: FaultKind, line: &Line, first: Place) -> LoadFault
     ensures { result ≡ indent_fault kind (line_of line.now) first }
 {
@@ -92,11 +107,7 @@ fn indent_fault(kind: FaultKind, line: &Line, first: Place) -> LoadFault
             },
         },
         _ => LoadFault {
-            kind: if begins_badly(line) {
-                FaultKind::BadToken
-            } else {
-                FaultKind::BadIndent
-            },
+            kind: depth_kind(line),
             place: first,
         },
     }

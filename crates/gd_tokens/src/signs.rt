@@ -2,7 +2,7 @@
 ghost use Rattle.std.specs.Prelude.{◌≡◌, ◌≤◌, ◌<◌, ℕ, bytes_eq, length, take, IfSome};
 ghost use Rattle.std.specs.List.{filter};
 ghost use Rattle.gd_syntax.specs.Spellings.{spelled, sign_at};
-ghost use Rattle.gd_syntax.specs.declared.token.TheConstants.{SIGNS};
+ghost use Rattle.gd_syntax.specs.Tokens.{signs};
 ghost use Rattle.gd_tokens.specs.FoundParts.{found_of, found_size, begins_with};
 
 use crate::found::Found;
@@ -51,7 +51,7 @@ fn front(text: &[char], n: usize) -> &[char]
 
 /// The signs that begin with this character, if there are any.
 fn signs_from(c: char) -> Option<&'static [Mark]>
-    ensures { IfSome result (λ signs. signs.now ≡ filter (begins_with c) SIGNS) }
+    ensures { IfSome result (λ listed. listed.now ≡ filter (begins_with c) signs) }
 {
     let signs: &'static [Mark] = match c {
         '+' => &[Mark::Plus, Mark::PlusAssign],
@@ -96,7 +96,7 @@ fn signs_from(c: char) -> Option<&'static [Mark]>
 
 /// Those of the signs that may begin the text.
 fn signs_for(text: &[char]) -> &'static [Mark]
-    ensures { (n : ℕ) → 0 < n → spelled result.now (take n text.now) ≡ spelled SIGNS (take n text.now) }
+    ensures { (n : ℕ) → 0 < n → spelled result.now (take n text.now) ≡ spelled signs (take n text.now) }
 {
     let [c, ..] = text else {
         return &SIGNS;

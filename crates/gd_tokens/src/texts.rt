@@ -1,13 +1,15 @@
 // The tokens of a file.
-ghost use Rattle.std.specs.Prelude.{◌≡◌, ◌≤◌, ◌^◌, ◌==◌, if◌then◌else◌, length, take, drop, IfOk};
+ghost use Rattle.std.specs.Prelude.{◌≡◌, ℕ, List, ◌≤◌, ◌^◌, ◌==◌, ◌∷◌, [], None, Some, if◌then◌else◌, length, map, take, drop, IfOk};
 ghost use Rattle.std.specs.Str.{chars};
 ghost use Rattle.std.specs.Str.Lossy.{utf8_valid_len};
 ghost use Rattle.gd_syntax.specs.Spellings.{begins};
 ghost use Rattle.gd_syntax.specs.TokenReading.{IsEnded};
-ghost use Rattle.gd_syntax.specs.Layout.{Answer, IsAnswer, is_unclosed, or_bad_bytes, tokens_in, tokens_in_bytes};
+ghost use Rattle.gd_syntax.specs.declared.fault.FaultKind.TheVariants.{BadBytes};
+ghost use Rattle.gd_syntax.specs.Layout.{IsAnswer, at, before_byte, broken, is_comment, lines_of, past_all, pieces, text_start, tokens_before, tokens_in_bytes};
+ghost use Rattle.gd_tokens.specs.LineParts.{GoesOn, ending_of, line_of, lines_behind};
 
 use crate::layout::Layout;
-use crate::lines::read_line;
+use crate::lines::{Ending, Line, read_line};
 use crate::list::add_line;
 use crate::reader::Reader;
 use gd_syntax::{FaultKind, LoadFault, Place, SolveError, Token};
@@ -46,17 +48,76 @@ fn without_mark(text: &[char]) -> &[char]
     }
 }
 
-/// The tokens of a text.
-fn list_tokens(alloc: Global, text: &[char]) -> Result<Vec<Token>, SolveError>
+/// The first byte that is no UTF-8, where this text is not the whole of its file.
+fn bad_byte(is_whole: bool, text: &[char]) -> Option<LoadFault>
     requires { length text.now ≤ 2 ^ 30 }
-    ensures answer { IsAnswer result (tokens_in text.now) }
+    ensures { result ≡ (if is_whole then None else Some (at BadBytes (past_all text_start text.now))) }
+{
+    if is_whole {
+        return None;
+    }
+    let kind = FaultKind::BadBytes;
+    let place = Reader::new(text).place_at(text.len());
+    Some(LoadFault { kind, place })
+}
+
+/// Whether what stands behind the blanks of a line without tokens, up to this place, is a comment.
+fn is_comment(line: &Line, place: Place) -> bool
+    ensures { result ≡ is_comment line.now.tokens.items (line_of line.now) place }
+{
+    if let [_, ..] = line.tokens.as_slice() {
+        return false;
+    }
+    let passed = place.column.saturating_sub(line.start.column);
+    place.line == line.start.line && line.indent.len() < passed as usize
+}
+
+/// Ends a line at a bad byte, where the text ends on it. The blanks before a comment do not count.
+fn break_line(line: &mut Line, fault: LoadFault)
+    ensures line { line_of line.new ≡ broken fault (line_of line.old) (ending_of line.old.ending) }
+    ensures behind { (place : Place) (text : List ℕ) → lines_behind line.new.ending place text ≡ lines_behind line.old.ending place text }
+    ensures shorter { (text rest : List ℕ) → GoesOn line.old.ending text rest → GoesOn line.new.ending text rest }
+{
+    match line.ending {
+        Ending::Stops(place) => {
+            if is_comment(line, place) {
+                line.indent.clear();
+            }
+            line.ending = Ending::Breaks(place, fault);
+        }
+        Ending::Unclosed(place) => line.ending = Ending::Breaks(place, fault),
+        Ending::Ends(_) | Ending::Breaks(_, _) => {}
+    }
+}
+
+/// Reads the line that begins the text, which ends at its file's end, or at a bad byte.
+fn next_line(alloc: Global, reader: &mut Reader, bad: Option<LoadFault>) -> Result<Line, AllocError>
+    ensures value { IfOk result (λ line. map (before_byte bad) (lines_of [] (pieces 0 reader.old.place reader.old.rest.now)) ≡ line_of line ∷ map (before_byte bad) (lines_behind line.ending reader.new.place reader.new.rest.now)) }
+    ensures shorter { IfOk result (λ line. GoesOn line.ending reader.old.rest.now reader.new.rest.now) }
+{
+    let mut line = read_line(alloc, reader)?;
+    match bad {
+        Some(fault) => break_line(&mut line, fault),
+        None => {}
+    }
+    Ok(line)
+}
+
+/// The tokens of a text that ends at its file's end, or at a bad byte.
+fn list_tokens(
+    alloc: Global,
+    text: &[char],
+    bad: Option<LoadFault>,
+) -> Result<Vec<Token>, SolveError>
+    requires { length text.now ≤ 2 ^ 30 }
+    ensures answer { IsAnswer result (tokens_before bad text.now) }
     ensures ended { IfOk result (λ tokens. IsEnded tokens.items) }
 {
     let mut reader = Reader::new(text);
     let mut layout = Layout::new(alloc);
     let mut out = Vec::new(alloc);
     loop {
-        let line = read_line(alloc, &mut reader)?;
+        let line = next_line(alloc, &mut reader, bad)?;
         match add_line(&mut out, &mut layout, line) {
             Ok(true) => {}
             Ok(false) => return Ok(out),
@@ -65,45 +126,11 @@ fn list_tokens(alloc: Global, text: &[char]) -> Result<Vec<Token>, SolveError>
     }
 }
 
-fn is_unclosed(kind: FaultKind) -> bool
-    ensures { result ≡ is_unclosed kind }
-{
-    match kind {
-        FaultKind::Unclosed => true,
-        _ => false,
-    }
-}
-
-/// The answer on a text that ends at a bad byte. `Unclosed` comes only where there is no other fault.
-fn with_bad_bytes(
-    found: Result<Vec<Token>, SolveError>,
-    place: Place,
-) -> Result<Vec<Token>, SolveError>
-    ensures answer { (answer : Answer) → IsAnswer found answer → IsAnswer result (or_bad_bytes place answer) }
-    ensures none { IfOk result (λ _. ⊥) }
-{
-    let bad = Err(SolveError::Fault(LoadFault {
-        kind: FaultKind::BadBytes,
-        place,
-    }));
-    match found {
-        Ok(_) => bad,
-        Err(SolveError::Fault(fault)) => {
-            if is_unclosed(fault.kind) {
-                bad
-            } else {
-                Err(SolveError::Fault(fault))
-            }
-        }
-        Err(SolveError::NoMemory) => Err(SolveError::NoMemory),
-    }
-}
-
 /// The tokens of a file, or its first fault. The last token is the file's end.
 ///
 /// A file is UTF-8. Its words, numbers and strings are those of the Godot manual's "GDScript reference", where an
 /// identifier follows UAX 31 with `_` as a further start.
-#[tactic(auto, unfolding(gd_syntax::specs::Layout::tokens_in_bytes))]
+#[tactic(auto, unfolding(gd_syntax::specs::Layout::tokens_in_bytes, gd_syntax::specs::Layout::bad_byte))]
 pub fn tokens(alloc: Global, text: &[u8]) -> Result<Vec<Token>, SolveError>
     requires { length text.now ≤ 1048576 }
     ensures answer { IsAnswer result (tokens_in_bytes text.now) }
@@ -112,9 +139,6 @@ pub fn tokens(alloc: Global, text: &[u8]) -> Result<Vec<Token>, SolveError>
     let valid = valid_front(text);
     let characters = characters(alloc, valid)?;
     let inside = without_mark(characters.as_slice());
-    let found = list_tokens(alloc, inside);
-    if valid.len() == text.len() {
-        return found;
-    }
-    with_bad_bytes(found, Reader::new(inside).place_at(inside.len()))
+    let bad = bad_byte(valid.len() == text.len(), inside);
+    list_tokens(alloc, inside, bad)
 }

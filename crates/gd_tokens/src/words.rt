@@ -3,7 +3,7 @@ ghost use Rattle.std.specs.Prelude.{◌≡◌, ◌≤◌, ◌&&◌, length, byte
 ghost use Rattle.std.specs.List.{prefix_len};
 ghost use Rattle.unicode_ident.specs.Ident.{is_xid_continue};
 ghost use Rattle.gd_syntax.specs.Spellings.{begins, is_quote, keyword_or_name, spelled, starts_word, word_at};
-ghost use Rattle.gd_syntax.specs.declared.token.TheConstants.{KEYWORDS};
+ghost use Rattle.gd_syntax.specs.Tokens.{keywords};
 ghost use Rattle.gd_tokens.specs.FoundParts.{found_of, found_size};
 
 use crate::found::Found;
@@ -64,7 +64,7 @@ fn begins_raw_string(word: &[char], rest: &[char]) -> bool
 }
 
 fn keyword_or_name(alloc: Global, word: &[char]) -> Result<Kind, AllocError>
-    ensures { IfOk result (λ kind. kind ≡ keyword_or_name (spelled KEYWORDS word.now) word.now) }
+    ensures { IfOk result (λ kind. kind ≡ keyword_or_name (spelled keywords word.now) word.now) }
 {
     match spelled_by(keywords_for(word), word) {
         Some(mark) => Ok(Kind::Mark(mark)),

@@ -11,7 +11,7 @@ use Rattle.gd_syntax.specs.declared.first.FirstScript.{FirstScript}
 use Rattle.std.specs.Result.{IsErrAnd}
 use Rattle.gd_syntax.specs.Header.{header_end_of}
 use Rattle.gd_syntax.specs.Layout.{Answer, tokens_in_bytes}
-use Rattle.gd_syntax.proofs.ExistsScripts.{takes_script}
+use Rattle.grammar_laws.proofs.ExistsScripts.{takes_script}
 use Rattle.gd_syntax.proofs.OnlyScripts.{only_script}
 use Rattle.gdrun.specs.FileReading.{FileReading, faulty, reading_of_tree, IsReadingOfTree, IsReadingOfOutcome, IsReadingOfTokens, IsReadingOfAnswer, IsFileReading, IsTokensRead}
 use Rattle.gdrun.specs.Taken.{file}

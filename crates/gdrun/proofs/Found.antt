@@ -6,10 +6,10 @@ use Rattle.std.specs.FinMap.{find}
 use Rattle.std.proofs.lemmas.List.{get_or-map, length-map}
 use Rattle.std.proofs.lemmas.Map.Text.{is_eq-slice_cmp}
 use Rattle.host_io.specs.Paths.{path_order}
-use Rattle.project_run.specs.declared.image.ImageFile.{ImageFile}
-use Rattle.project_run.specs.ImageType.{image_of, bytes_of}
-use Rattle.project_run.specs.declared.TheConstants.{MAX_FILE_BYTES}
-use Rattle.project_run.specs.Image.{size_of}
+use Rattle.folder_meaning.specs.declared.image.ImageFile.{ImageFile}
+use Rattle.folder_meaning.specs.ImageFile.{image_of, bytes_of}
+use Rattle.folder_meaning.specs.Image.{size_of}
+use Rattle.folder_meaning.specs.Limits.{max_file_bytes}
 
 -- a file of the image as plain data
 abbrev view_of : ImageFile → List ℕ × Option (List ℕ)
@@ -26,7 +26,7 @@ module _ (image : List ImageFile) (i : ℕ) (file : ImageFile) (within : i < len
   passed test = sym (step ∙ rw test refl)
 
   -- each file of the image is within the limit
-  pub within_limit : All (λ f. size_of f.1 ≤ MAX_FILE_BYTES) (image_of image) → size_of (bytes_of file.content) ≤ MAX_FILE_BYTES
+  pub within_limit : All (λ f. size_of f.1 ≤ max_file_bytes) (image_of image) → size_of (bytes_of file.content) ≤ max_file_bytes
   within_limit short =
       let one = short i (view_of file) (rw (length-map image view_of) within) in
       let same : get_or (image_of image) i (view_of file) ≡ view_of file = get_or-map view_of image i file (view_of file) within ∙ ap view_of (sym is) in

@@ -7,7 +7,7 @@ use Rattle.gd_syntax.specs.declared.token.Mark.{Mark}
 use Rattle.gd_syntax.specs.declared.token.Mark.TheVariants as m
 use Rattle.gd_syntax.specs.Reading.{Outcome, Read, Reading, Then, Turn, Loop}
 use Rattle.gd_syntax.specs.TokenReading.{kind_at, mark_at, mark_of}
-use Rattle.gd_syntax.proofs.Exists.{Sound, Reads, Takes, Moves, taken, takes, reads_then, reads, sound_look, sound_stops, sound_either, reads_give, goes_on, ends, moves_look, Ends, ends_look, ends_mark, reads_loop, takes_skip, decide_mark, Starts, starts_then, starts_look, starts_either, starts_stops}
+use Rattle.grammar_laws.proofs.Exists.{Sound, Reads, Takes, Moves, taken, takes, reads_then, reads, sound_look, sound_stops, sound_either, reads_give, goes_on, ends, moves_look, Ends, ends_look, ends_mark, reads_loop, takes_skip, decide_mark, Starts, starts_then, starts_look, starts_either, starts_stops}
 use Rattle.gd_syntax.proofs.Only.{Only, only_is, only_then, only_look, only_loop, only_either, only_skip}
 use Rattle.gdrun.specs.Taken.{max_arguments, max_operators, is_word, is_number, is_operator, unbuilt, Due, one, word, number, operator_by, operator, operators, argument_by, argument, parted_argument_by, further_argument_by, further_argument, further_arguments, call, parted_call_by, further_call_by, further_call, line, further_line_by, further_line, body_by, head, file}
 

@@ -1,6 +1,7 @@
 pub mod Words
 pub mod Numbers
 pub mod ScriptCommand
+pub mod Report
 pub mod Outcome
 pub mod Run
 pub mod Told

@@ -102,7 +102,7 @@ abbrev pub simple_lines : Simple → List Print
 simple_lines (simply.Expr place x) = expression_lines place x
 simple_lines _ = []
 
-abbrev pub statement_lines_by : Stmt-F Stmt → List Print
+abbrev pub statement_lines_by : {A B C : Type 0} → Stmt-F A B C → List Print
 statement_lines_by (Stmt-F.Line place all) = flat_map simple_lines all
 statement_lines_by _ = []
 

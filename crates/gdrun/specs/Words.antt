@@ -22,11 +22,15 @@ max_steps = 1000000000000
 abbrev pub default_steps : ℕ
 default_steps = 10000000
 
--- what is asked for
+-- what is asked of a folder
+pub data FolderCommand : Type 0 where
+  -- load a script, make one instance and end: the script's path, and the steps that are allowed
+  script : List ℕ → ℕ → FolderCommand
+
+-- what is asked for: a command reads the folder, or does not
 pub data Command : Type 0 where
   no_command : Command
-  -- load a script, make one instance and end: the script's path, and the steps that are allowed
-  script_command : List ℕ → ℕ → Command
+  of_folder : FolderCommand → Command
 
 -- the bytes of each word
 abbrev pub texts_of : List (String Global) → List (List ℕ)
@@ -58,7 +62,7 @@ is_script_path path = is_res_path path && is_script_name path
 
 abbrev pub script_of_words : List ℕ → Option ℕ → Command
 script_of_words path None = no_command
-script_of_words path (Some steps) = if is_script_path path then script_command path steps else no_command
+script_of_words path (Some steps) = if is_script_path path then of_folder (script path steps) else no_command
 
 -- the words but DIR: `script PATH [WORKERS [STEPS]]`
 abbrev pub command_of_parts : List ℕ → List ℕ → List (List ℕ) → Command
@@ -72,9 +76,12 @@ command_of words = no_command
 -- whether the folder is read for it
 abbrev pub reads_folder : Command → Bool
 reads_folder no_command = false
-reads_folder (script_command path steps) = true
+reads_folder (of_folder asked) = true
 
 -- the one path that the folder must list, and no other
+abbrev pub wanted_of : FolderCommand → Option (List ℕ)
+wanted_of (script path steps) = Some path
+
 abbrev pub wanted_by : Command → Option (List ℕ)
 wanted_by no_command = None
-wanted_by (script_command path steps) = Some path
+wanted_by (of_folder asked) = wanted_of asked

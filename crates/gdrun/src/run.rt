@@ -1,14 +1,13 @@
 // The whole of a run, over a folder and a sink that are handed in.
-ghost use Rattle.std.specs.Prelude.{◌≡◌, ◌≢◌, ◌≤◌, IsTrue, IsErrOf, Err, All, IfSome, length};
+ghost use Rattle.std.specs.Prelude.{◌≡◌, ◌≤◌, [], ◌∷◌, IsTrue, All, IfSome, length};
 ghost use Rattle.std.specs.Option.{option_map};
 ghost use Rattle.std.specs.FinMap.{find};
-ghost use Rattle.host_io.specs.Causes.{RoseBy};
 ghost use Rattle.host_io.specs.Paths.{path_order};
 ghost use Rattle.gd_syntax.specs.FirstScript.{script_of};
-ghost use Rattle.gd_syntax.specs.FirstRun.{run_of};
 ghost use Rattle.gd_machine.specs.Ending.{is_told, ending_text};
-ghost use Rattle.project_run.specs.Image.{size_of};
-ghost use Rattle.project_run.specs.ImageType.{image_of, bytes_of};
+ghost use Rattle.folder_meaning.specs.Image.{size_of};
+ghost use Rattle.folder_meaning.specs.ImageFile.{image_of, bytes_of};
+ghost use Rattle.folder_meaning.specs.Limits.{max_file_bytes};
 ghost use Rattle.gdrun.specs.Outcome.{outcome_of_run, IsOutcomeOfText, IsOutcomeOfFile};
 ghost use Rattle.gdrun.specs.Run.{HasWritten, HasWrittenSome, HasRefused};
 ghost use Rattle.gdrun.specs.Told.{status_of_ending};
@@ -17,10 +16,10 @@ use crate::file::read_script;
 use crate::status::Status;
 use crate::stop::Stop;
 use crate::write::{finish, miss, refuse};
+use folder_meaning::ImageFile;
 use gd_machine::{Ending, Machine, Program, ending_line};
 use gd_syntax::{FaultKind, FirstScript, LoadFault, Place, ResPath, SolveError};
 use host_io::Sink;
-use project_run::{ImageFile, MAX_FILE_BYTES};
 use std::alloc::Global;
 
 fn status_of(ending: &Ending) -> Status
@@ -37,9 +36,7 @@ fn status_of(ending: &Ending) -> Status
 /// Writes the outcome line of a run.
 fn finish_run<S: Sink>(alloc: Global, out: &mut S, ending: &Ending) -> Result<Status, Stop>
     requires { IsTrue (is_told ending.now) }
-    ensures wrote { HasWritten (S.taken out.old) (S.taken out.new) (record { text = ending_text ending.now; status = status_of_ending ending.now }) result }
-    ensures cause { IsErrOf result Stop.SinkFault → RoseBy 1 (S.faults out.old) (S.faults out.new) }
-    ensures kept { (result ≢ Err Stop.SinkFault) → S.faults out.new ≡ S.faults out.old }
+    ensures { HasWritten (S.state out.old) (S.state out.new) (record { pieces = ending_text ending.now ∷ []; status = status_of_ending ending.now }) result }
 {
     let line = ending_line(alloc, ending)?;
     finish(out, line.as_str(), status_of(ending))
@@ -54,9 +51,7 @@ fn run_script<S: Sink>(
     script: FirstScript,
 ) -> Result<Status, Stop>
     requires { 1 ≤ steps }
-    ensures wrote { HasWritten (S.taken out.old) (S.taken out.new) (outcome_of_run path (run_of (script_of script) steps)) result }
-    ensures cause { IsErrOf result Stop.SinkFault → RoseBy 1 (S.faults out.old) (S.faults out.new) }
-    ensures kept { (result ≢ Err Stop.SinkFault) → S.faults out.new ≡ S.faults out.old }
+    ensures { HasWritten (S.state out.old) (S.state out.new) (outcome_of_run path steps (script_of script)) result }
 {
     let machine = Machine::new(alloc, Program::first(script, path), steps)?;
     match machine.run(out) {
@@ -73,9 +68,7 @@ fn refuse_text<S: Sink>(
     path: &str,
     error: SolveError,
 ) -> Result<Status, Stop>
-    ensures wrote { HasRefused path.now error (S.taken out.old) (S.taken out.new) result }
-    ensures cause { IsErrOf result Stop.SinkFault → RoseBy 1 (S.faults out.old) (S.faults out.new) }
-    ensures kept { (result ≢ Err Stop.SinkFault) → S.faults out.new ≡ S.faults out.old }
+    ensures { HasRefused path.now error (S.state out.old) (S.state out.new) result }
 {
     match error {
         SolveError::Fault(fault) => refuse(alloc, out, path, fault),
@@ -92,10 +85,8 @@ fn run_text<S: Sink>(
     text: &[u8],
 ) -> Result<Status, Stop>
     requires steps { 1 ≤ steps }
-    requires short { length text.now ≤ MAX_FILE_BYTES }
-    ensures wrote { HasWrittenSome (IsOutcomeOfText path steps text.now) (S.taken out.old) (S.taken out.new) result }
-    ensures cause { IsErrOf result Stop.SinkFault → RoseBy 1 (S.faults out.old) (S.faults out.new) }
-    ensures kept { (result ≢ Err Stop.SinkFault) → S.faults out.new ≡ S.faults out.old }
+    requires short { length text.now ≤ max_file_bytes }
+    ensures { HasWrittenSome (IsOutcomeOfText path steps text.now) (S.state out.old) (S.state out.new) result }
 {
     match read_script(alloc, text) {
         Ok(script) => run_script(alloc, out, path, steps, script),
@@ -105,9 +96,9 @@ fn run_text<S: Sink>(
 
 /// The file at a path.
 fn find_file<'a>(image: &'a [ImageFile], path: &str) -> Option<&'a ImageFile>
-    requires { All (λ file. size_of file.1 ≤ MAX_FILE_BYTES) (image_of image.now) }
+    requires { All (λ file. size_of file.1 ≤ max_file_bytes) (image_of image.now) }
     ensures found { option_map (λ file. bytes_of file.now.content) result ≡ find path_order path.now (image_of image.now) }
-    ensures short { IfSome result (λ file. size_of (bytes_of file.now.content) ≤ MAX_FILE_BYTES) }
+    ensures short { IfSome result (λ file. size_of (bytes_of file.now.content) ≤ max_file_bytes) }
 {
     for file in image {
         if path == file.path.as_str() {
@@ -126,10 +117,8 @@ pub fn run_file<S: Sink>(
     image: &[ImageFile],
 ) -> Result<Status, Stop>
     requires steps { 1 ≤ steps }
-    requires short { All (λ file. size_of file.1 ≤ MAX_FILE_BYTES) (image_of image.now) }
-    ensures wrote { HasWrittenSome (IsOutcomeOfFile path steps (find path_order path (image_of image.now))) (S.taken out.old) (S.taken out.new) result }
-    ensures cause { IsErrOf result Stop.SinkFault → RoseBy 1 (S.faults out.old) (S.faults out.new) }
-    ensures kept { (result ≢ Err Stop.SinkFault) → S.faults out.new ≡ S.faults out.old }
+    requires short { All (λ file. size_of file.1 ≤ max_file_bytes) (image_of image.now) }
+    ensures { HasWrittenSome (IsOutcomeOfFile path steps (find path_order path (image_of image.now))) (S.state out.old) (S.state out.new) result }
 {
     let Some(file) = find_file(image, path.as_str()) else {
         return miss(alloc, out, path.as_str());

@@ -65,9 +65,14 @@ fn product(alloc: Global, expr: &Expr) -> Result<FirstProduct, AllocError>
 {
     match expr {
         Expr::Literal(_, value) => Ok(one_number(alloc, literal_number(value))),
-        Expr::Binary(_, op, a, b) => {
-            let left = product(alloc, a.get())?;
-            product_with(alloc, *op, left, number(b.get()))
+        Expr::Binary {
+            op,
+            left,
+            right,
+            ..
+        } => {
+            let factors = product(alloc, left.get())?;
+            product_with(alloc, *op, factors, number(right.get()))
         }
         _ => Ok(one_number(alloc, 0)),
     }
@@ -107,15 +112,20 @@ fn sum(alloc: Global, expr: &Expr) -> Result<FirstSum, AllocError>
 {
     match expr {
         Expr::Literal(_, value) => Ok(one_product(alloc, one_number(alloc, literal_number(value)))),
-        Expr::Binary(_, op, a, b) => match sign_of(*op) {
+        Expr::Binary {
+            op,
+            left,
+            right,
+            ..
+        } => match sign_of(*op) {
             Some(sign) => {
-                let left = sum(alloc, a.get())?;
-                let right = product(alloc, b.get())?;
-                with_term(left, sign, right)
+                let terms = sum(alloc, left.get())?;
+                let term = product(alloc, right.get())?;
+                with_term(terms, sign, term)
             }
             None => {
-                let left = product(alloc, a.get())?;
-                let all = product_with(alloc, *op, left, number(b.get()))?;
+                let factors = product(alloc, left.get())?;
+                let all = product_with(alloc, *op, factors, number(right.get()))?;
                 Ok(one_product(alloc, all))
             }
         },

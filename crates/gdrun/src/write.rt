@@ -1,10 +1,9 @@
 // Texts that are written: a report, a message or an outcome line.
-ghost use Rattle.std.specs.Prelude.{◌≡◌, ◌≢◌, ◌++◌, codes, IfOk, IsErrOf, Err, string_bytes};
+ghost use Rattle.std.specs.Prelude.{◌≡◌, ◌++◌, [], ◌∷◌, codes, IfOk, string_bytes};
 ghost use Rattle.std.specs.Fmt.{decimal};
-ghost use Rattle.host_io.specs.Causes.{RoseBy};
-ghost use Rattle.host_io.specs.Sink.{Takes};
-ghost use Rattle.gdrun.specs.Outcome.{one_line, refused, refused_line, fault_line};
-ghost use Rattle.gdrun.specs.Run.{HasWritten};
+ghost use Rattle.gdrun.specs.Outcome.{file_refusal, refusal};
+ghost use Rattle.gdrun.specs.Report.{missing, refused_line, fault_line};
+ghost use Rattle.gdrun.specs.Run.{HasPut, HasWritten};
 
 use crate::status::Status;
 use crate::stop::Stop;
@@ -13,36 +12,27 @@ use host_io::Sink;
 use std::alloc::{AllocError, Global};
 use std::fmt::Write;
 
-/// Writes a text at once.
-pub fn write_text<S: Sink>(out: &mut S, text: &str) -> Result<(), Stop>
-    ensures takes { Takes (S.taken out.old) (S.taken out.new) text.now result }
-    ensures cause { IsErrOf result Stop.SinkFault → RoseBy 1 (S.faults out.old) (S.faults out.new) }
-    ensures memory { result ≢ Err Stop.NoMemory }
-    ensures kept { (result ≢ Err Stop.SinkFault) → S.faults out.new ≡ S.faults out.old }
+/// Writes a piece of the text at once.
+fn write_piece<S: Sink>(out: &mut S, piece: &str) -> Result<(), Stop>
+    ensures { HasPut (S.state out.old) (S.state out.new) (piece.now ∷ []) result }
 {
-    out.write_all(text.as_bytes())?;
+    out.write_all(piece.as_bytes())?;
     Ok(())
 }
 
-/// Writes the last text, and answers the status.
+/// Writes the last piece, and answers the status.
 pub fn finish<S: Sink>(out: &mut S, text: &str, status: Status) -> Result<Status, Stop>
-    ensures wrote { HasWritten (S.taken out.old) (S.taken out.new) (record { text = text.now; status = status }) result }
-    ensures cause { IsErrOf result Stop.SinkFault → RoseBy 1 (S.faults out.old) (S.faults out.new) }
-    ensures memory { result ≢ Err Stop.NoMemory }
-    ensures kept { (result ≢ Err Stop.SinkFault) → S.faults out.new ≡ S.faults out.old }
+    ensures { HasWritten (S.state out.old) (S.state out.new) (record { pieces = text.now ∷ []; status = status }) result }
 {
-    write_text(out, text)?;
+    write_piece(out, text)?;
     Ok(status)
 }
 
-/// Writes two texts, the last ones, and answers the status.
+/// Writes two pieces, the last ones, and answers the status.
 fn write_both<S: Sink>(out: &mut S, first: &str, last: &str, status: Status) -> Result<Status, Stop>
-    ensures wrote { HasWritten (S.taken out.old) (S.taken out.new) (record { text = first.now ++ last.now; status = status }) result }
-    ensures cause { IsErrOf result Stop.SinkFault → RoseBy 1 (S.faults out.old) (S.faults out.new) }
-    ensures memory { result ≢ Err Stop.NoMemory }
-    ensures kept { (result ≢ Err Stop.SinkFault) → S.faults out.new ≡ S.faults out.old }
+    ensures { HasWritten (S.state out.old) (S.state out.new) (record { pieces = first.now ∷ last.now ∷ []; status = status }) result }
 {
-    write_text(out, first)?;
+    write_piece(out, first)?;
     finish(out, last, status)
 }
 
@@ -66,38 +56,35 @@ fn fault_line(alloc: Global, path: &str, fault: LoadFault) -> Result<String, All
     Ok(line)
 }
 
-fn refused_line(alloc: Global, path: &str) -> Result<String, AllocError>
-    ensures { IfOk result (λ line. string_bytes line ≡ refused_line path.now) }
+/// The line of a path whose load has one faulty file.
+fn refused_line(alloc: Global, path: &str, file: &str) -> Result<String, AllocError>
+    ensures { IfOk result (λ line. string_bytes line ≡ refused_line path.now (file.now ∷ [])) }
 {
     let mut line = String::from_str(alloc, "refused ")?;
     line.push_str(path)?;
     line.push_str(": ")?;
-    line.push_str(path)?;
+    line.push_str(file)?;
     line.push('\n')?;
     Ok(line)
 }
 
-/// Writes the report of a path whose load has this one fault, each line at once.
+/// Writes the report of a path whose own file alone has a fault, each line at once.
 pub fn refuse<S: Sink>(
     alloc: Global,
     out: &mut S,
     path: &str,
     fault: LoadFault,
 ) -> Result<Status, Stop>
-    ensures wrote { HasWritten (S.taken out.old) (S.taken out.new) (refused path.now fault) result }
-    ensures cause { IsErrOf result Stop.SinkFault → RoseBy 1 (S.faults out.old) (S.faults out.new) }
-    ensures kept { (result ≢ Err Stop.SinkFault) → S.faults out.new ≡ S.faults out.old }
+    ensures { HasWritten (S.state out.old) (S.state out.new) (file_refusal path.now fault) result }
 {
-    let report = refused_line(alloc, path)?;
+    let report = refused_line(alloc, path, path)?;
     let detail = fault_line(alloc, path, fault)?;
     write_both(out, report.as_str(), detail.as_str(), Status::Refused)
 }
 
 /// Writes that a path is not in the folder.
 pub fn miss<S: Sink>(alloc: Global, out: &mut S, path: &str) -> Result<Status, Stop>
-    ensures wrote { HasWritten (S.taken out.old) (S.taken out.new) (one_line (codes "missing " ++ path.now) Status.Refused) result }
-    ensures cause { IsErrOf result Stop.SinkFault → RoseBy 1 (S.faults out.old) (S.faults out.new) }
-    ensures kept { (result ≢ Err Stop.SinkFault) → S.faults out.new ≡ S.faults out.old }
+    ensures { HasWritten (S.state out.old) (S.state out.new) (refusal ((path.now, missing) ∷ [])) result }
 {
     let text = format!(in alloc; "missing {path}\n")?;
     finish(out, text.as_str(), Status::Refused)

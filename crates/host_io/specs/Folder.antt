@@ -51,6 +51,10 @@ ReadsFile files path limit (Err TooLong) = IsSomeAnd (get files path) (λ bytes.
 ReadsFile files path limit (Err read_fail) = ⊤
 ReadsFile files path limit (Err read_memory) = ⊤
 
+-- no call has failed
+abbrev pub no_faults : Faults
+no_faults = record { deciding = 0; other = 0 }
+
 -- a folder that tells its files lacks this one
 abbrev pub is_lacking : Option Files → List ℕ → Bool
 is_lacking None path = false

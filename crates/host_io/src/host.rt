@@ -1,7 +1,7 @@
 // The real folder and the standard output. What they hold or take is not told.
 ghost use Rattle.std.specs.Prelude.{◌≡◌, ◌≤◌, ◌+◌, List, [], ◌∷◌, length, vec_len, IfOk, IfSome, OnOk, IsTrue, IsErrOf, IsErrAnd, None, All, string_bytes};
 ghost use Rattle.host_io.specs.Causes.{HasCause, risen};
-ghost use Rattle.host_io.specs.Folder.{texts, IsListing, AreProjectPaths};
+ghost use Rattle.host_io.specs.Folder.{texts, IsListing, AreProjectPaths, no_faults};
 ghost use Rattle.host_io.specs.Paths.{same_path};
 ghost use Rattle.std.specs.List.{IsDistinct};
 ghost use Rattle.res_paths.specs.Paths.{is_project_path};
@@ -24,17 +24,15 @@ pub struct HostSink<R: Print> {
 
 impl<R: Print> HostSink<R> {
     /// Standard output, with no buffer of its own.
-    pub fn stdout(rt: R) -> HostSink<R> {
+    pub fn stdout(rt: R) -> HostSink<R>
+        ensures { ⟦<HostSink<R> as Sink>⟧.state result ≡ record { taken = None; writes = None; faults = 0 } }
+    {
         HostSink { rt, faults: 0 }
     }
 }
 
 impl<R: Print> Sink for HostSink<R> {
-    ghost taken = { λ _. None };
-
-    ghost faults = { λ s. s.faults };
-
-    ghost writes = { λ _. None };
+    ghost state = { λ s. record { taken = None; writes = None; faults = s.faults } };
 
     fn write_all(&mut self, bytes: &[u8]) -> Result<(), WriteError> {
         match io::writer(&self.rt).write_all(bytes) {
@@ -59,7 +57,9 @@ pub struct HostFolder<R: Files + AllocGlobal + Clone + Drop> {
 
 impl<R: Files + AllocGlobal + Clone + Drop> HostFolder<R> {
     /// The folder at this place, which is first looked at by `list` or `read`.
-    pub fn open(rt: R, root: String) -> HostFolder<R> {
+    pub fn open(rt: R, root: String) -> HostFolder<R>
+        ensures { ⟦<HostFolder<R> as Folder>⟧.faults result ≡ no_faults }
+    {
         HostFolder {
             rt,
             root,

@@ -7,7 +7,7 @@ ghost use Rattle.std.proofs.lemmas.Map.Keys.{IsDistinct-prop};
 ghost use Rattle.std.proofs.Props.{props};
 ghost use Rattle.std.specs.Option.{option_map, option_copied};
 ghost use Rattle.host_io.specs.Causes.{Calls, HasCause, after_call, risen, is_failing};
-ghost use Rattle.host_io.specs.Folder.{texts, AreProjectPaths, HasProjectPaths};
+ghost use Rattle.host_io.specs.Folder.{texts, AreProjectPaths, HasProjectPaths, no_faults};
 ghost use Rattle.host_io.specs.Sink.{Writes};
 ghost use Rattle.host_io.specs.Paths.{path_order, same_path};
 ghost use Rattle.host_io.specs.Memory.{entries_of, paths_of, files_of, AreProjectFiles};
@@ -48,12 +48,13 @@ pub struct MemorySink {
 }
 
 impl MemorySink {
-    ghost use Rattle.host_io.specs.MemorySink.{taken_by, writes_of};
+    ghost use Rattle.host_io.specs.MemorySink.{taken_by, writes_of, faults_of};
 
     /// A sink that takes `room` bytes and refuses the listed writes, by number from 0. It takes its memory at once.
     pub fn new(alloc: Global, room: usize, failing: Vec<u64>) -> Result<MemorySink, AllocError>
         ensures empty { IfOk result (λ sink. taken_by sink ≡ []) }
         ensures writes { IfOk result (λ sink. writes_of sink ≡ record { calls = record { made = 0; failing = failing.items }; room = room }) }
+        ensures faults { IfOk result (λ sink. faults_of sink ≡ 0) }
     {
         let taken = Vec::with_capacity(alloc, room)?;
         Ok(MemorySink {
@@ -83,13 +84,9 @@ impl MemorySink {
 }
 
 impl Sink for MemorySink {
-    ghost use Rattle.host_io.specs.MemorySink.{taken_by, writes_of};
+    ghost use Rattle.host_io.specs.MemorySink.{state_of};
 
-    ghost taken = { λ s. Some (taken_by s) };
-
-    ghost faults = { λ s. s.faults };
-
-    ghost writes = { λ s. Some (writes_of s) };
+    ghost state = { state_of };
 
     fn write_all(&mut self, bytes: &[u8]) -> Result<(), WriteError> {
         if self.numbers.begin() || bytes.len() > self.room {
@@ -116,7 +113,7 @@ pub struct MemoryFolder {
 }
 
 impl MemoryFolder {
-    ghost use Rattle.host_io.specs.MemoryFolder.{files_in, calls_of};
+    ghost use Rattle.host_io.specs.MemoryFolder.{files_in, calls_of, faults_of};
 
     /// The names are distinct paths of files of a project.
     pub fn can_hold(alloc: Global, files: &[(String, Vec<u8>)]) -> Result<bool, AllocError>
@@ -139,6 +136,7 @@ impl MemoryFolder {
         requires { AreProjectFiles files.items }
         ensures files { files_in result ≡ files_of files.items }
         ensures calls { calls_of result ≡ record { made = 0; failing = failing.items } }
+        ensures faults { faults_of result ≡ no_faults }
     {
         files.sort_unstable_by(|a, b| a.0.cmp(&b.0));
         MemoryFolder {
@@ -173,11 +171,11 @@ fn find_file<'a>(files: &'a [(String, Vec<u8>)], path: &str) -> Option<&'a [u8]>
 }
 
 impl Folder for MemoryFolder {
-    ghost use Rattle.host_io.specs.MemoryFolder.{files_in, calls_of};
+    ghost use Rattle.host_io.specs.MemoryFolder.{files_in, calls_of, faults_of};
 
     ghost files = { λ m. Some (files_in m) };
 
-    ghost faults = { λ m. m.faults };
+    ghost faults = { faults_of };
 
     ghost calls = { λ m. Some (calls_of m) };
 

@@ -1,6 +1,7 @@
 pub mod Nodes
 pub mod RowLaws
 mod ChainLemmas
+pub mod Crossing
 mod SpellLemmas
 mod TableLemmas
 mod SoundLemmas

@@ -10,6 +10,7 @@ mod chains;
 mod plain;
 #[cfg(test)]
 mod tests;
+mod thread_safety;
 
 use chains::Chains;
 use std::alloc::{AllocError, Global};

@@ -1,24 +1,31 @@
-// The image of a folder: each file read once, in ascending byte order of paths.
-ghost use Rattle.std.specs.Prelude.{◌≡◌, ◌≤◌, ◌+◌, ◌↔◌, IfSome, IfOk, IsErrOf, IsTrue, List, [], ◌∷◌, ℕ, string_bytes, map, length, vec_len, All, None, Some};
+// The reading of a folder: its list, and then each file once, in ascending byte order of paths.
+ghost use Rattle.std.specs.Prelude.{◌≡◌, ◌≤◌, ◌<◌, ◌+◌, ◌^◌, ◌↔◌, IfSome, OnSome, IfOk, IsErrOf, IsTrue, List, [], ◌∷◌, ℕ, map, length, vec_len, All, None, Some};
 ghost use Rattle.std.specs.List.{sum_by};
 ghost use Rattle.std.specs.declared.option.Option.{Option};
 ghost use Rattle.project_run.specs.declared.image.ImageError.TheVariants.{NoMemory};
+ghost use Rattle.host_io.specs.declared.folder.Faults.{Faults};
 ghost use Rattle.host_io.specs.Causes.{Calls, after_told_call, is_failing};
 ghost use Rattle.host_io.specs.Folder.{Files, HasReadCause, texts};
-ghost use Rattle.project_run.specs.Image.{Image, Reading, IsImage, MayGive, MayRead, AllowsReading, reading_of_reads, reading_of, IsReadingOf, HasFaults, size_of, paths_of, is_alone, after_calls};
-ghost use Rattle.project_run.specs.ImageType.{bytes_of, image_of, told_reading, told_script_reading, script_error, AreListed, ListsPaths, HasFaultsOfList, IsStep, IsReadAnswer, HasFaultsOfOne};
+ghost use Rattle.folder_meaning.specs.Image.{Image, IsImage, paths_of, size_of};
+ghost use Rattle.folder_meaning.specs.ImageFile.{bytes_of, image_of};
+ghost use Rattle.folder_meaning.specs.Limits.{max_file_bytes, max_folder_bytes};
+ghost use Rattle.folder_meaning.specs.Reading.{IsReadingOf, MayGive};
+ghost use Rattle.folder_meaning.specs.ReadingCalls.{after_calls};
+ghost use Rattle.folder_meaning.specs.ReadingFaults.{HasFaults};
+ghost use Rattle.project_run.specs.Found.{Found, IsFoundBy, AllowsFound, HasFoundFaults, HasMadeCalls, MadeCalls, found_of, unfailed_found, is_alone};
+ghost use Rattle.project_run.specs.Answers.{told_reading, told_found, script_error, AreListed, ListsPaths, HasFaultsOfList, DecidesReading, IsStep, IsReadAnswer, HasFaultsOfOne};
 
-use crate::{MAX_FILE_BYTES, MAX_FILES, MAX_FOLDER_BYTES};
+use folder_meaning::ImageFile;
 use host_io::{Folder, ListError, ReadError};
 use res_paths::PROJECT_FILE;
 use std::alloc::{AllocError, AllocFailed, Global};
 
-/// A file of an image. It is unreadable where it has no content.
-#[derive(Drop)]
-pub struct ImageFile {
-    pub path: String,
-    pub content: Option<Vec<u8>>,
-}
+/// The most files of a folder.
+const MAX_FILES: usize = 4_096;
+/// The most bytes of a file.
+const MAX_FILE_BYTES: usize = 1_048_576;
+/// The most bytes of a folder.
+const MAX_FOLDER_BYTES: usize = 67_108_864;
 
 /// What decided before a folder's image was whole.
 #[derive(Clone, Copy, Debug, PartialEq, Eq)]
@@ -88,11 +95,11 @@ fn list_paths<F: Folder>(alloc: Global, folder: &mut F) -> Result<Vec<String>, I
 
 /// Reads a file, and says what the read gave.
 fn fetch<F: Folder>(alloc: Global, folder: &mut F, path: &str) -> Result<Vec<u8>, ReadError>
-    ensures told { (files : Files) → F.files folder.old ≡ Some files → (outcome : Option (List ℕ)) × MayGive files (F.calls folder.old) path.now outcome × IsReadAnswer MAX_FILE_BYTES outcome result }
+    ensures told { (files : Files) → F.files folder.old ≡ Some files → (outcome : Option (List ℕ)) × MayGive files (F.calls folder.old) path.now outcome × IsReadAnswer max_file_bytes outcome result }
     ensures files { F.files folder.new ≡ F.files folder.old }
     ensures number { F.calls folder.new ≡ after_told_call (F.calls folder.old) }
     ensures cause { HasReadCause path.now (F.faults folder.old) (F.faults folder.new) result }
-    ensures within { IfOk result (λ bytes. vec_len bytes ≤ MAX_FILE_BYTES) }
+    ensures within { IfOk result (λ bytes. vec_len bytes ≤ max_file_bytes) }
 {
     folder.read(alloc, path, MAX_FILE_BYTES)
 }
@@ -104,13 +111,13 @@ fn read_one<F: Folder>(
     path: &str,
     total: usize,
 ) -> Result<Option<Vec<u8>>, ImageError>
-    requires { total ≤ MAX_FOLDER_BYTES }
+    requires { total ≤ max_folder_bytes }
     ensures told { (files : Files) → F.files folder.old ≡ Some files → (outcome : Option (List ℕ)) × MayGive files (F.calls folder.old) path.now outcome × IsStep total path.now outcome result }
     ensures files { F.files folder.new ≡ F.files folder.old }
     ensures number { F.calls folder.new ≡ after_told_call (F.calls folder.old) }
     ensures faults { HasFaultsOfOne (F.faults folder.old) (F.faults folder.new) result }
-    ensures short { IfOk result (λ content. size_of (bytes_of content) ≤ MAX_FILE_BYTES) }
-    ensures within { IfOk result (λ content. total + size_of (bytes_of content) ≤ MAX_FOLDER_BYTES) }
+    ensures short { IfOk result (λ content. size_of (bytes_of content) ≤ max_file_bytes) }
+    ensures within { IfOk result (λ content. total + size_of (bytes_of content) ≤ max_folder_bytes) }
 {
     match fetch(alloc, folder, path) {
         Ok(bytes) if bytes.len() > MAX_FOLDER_BYTES - total => Err(ImageError::FolderLimit),
@@ -138,13 +145,14 @@ fn read_files<F: Folder>(
     folder: &mut F,
     paths: &[String],
 ) -> Result<Vec<ImageFile>, ImageError>
-    ensures told { (files : Files) → F.files folder.old ≡ Some files → IfSome (told_reading result) (λ reading. (reads : Image) × MayRead files (F.calls folder.old) (texts paths.now) reads × (reading ≡ reading_of_reads reads)) }
+    ensures told { (files : Files) → F.files folder.old ≡ Some files → IfSome (told_reading result) (DecidesReading files (F.calls folder.old) (F.calls folder.new) (texts paths.now)) }
     ensures files { F.files folder.new ≡ F.files folder.old }
+    ensures calls { MadeCalls (F.calls folder.old) (F.calls folder.new) }
     ensures number { IfOk result (λ image. F.calls folder.new ≡ after_calls (vec_len image) (F.calls folder.old)) }
     ensures faults { IfSome (told_reading result) (HasFaults (F.faults folder.old) (F.faults folder.new)) }
     ensures paths { IfOk result (λ image. paths_of (image_of image.items) ≡ texts paths.now) }
-    ensures short { IfOk result (λ image. All (λ file. size_of file.1 ≤ MAX_FILE_BYTES) (image_of image.items)) }
-    ensures total { IfOk result (λ image. sum_by (λ file. size_of file.1) (image_of image.items) ≤ MAX_FOLDER_BYTES) }
+    ensures short { IfOk result (λ image. All (λ file. size_of file.1 ≤ max_file_bytes) (image_of image.items)) }
+    ensures total { IfOk result (λ image. sum_by (λ file. size_of file.1) (image_of image.items) ≤ max_folder_bytes) }
 {
     let mut image = Vec::new(alloc);
     let mut total = 0;
@@ -159,10 +167,14 @@ fn read_files<F: Folder>(
 
 /// Reads the image of a folder: `list`, and then each file once, in ascending byte order of paths.
 pub fn read_image<F: Folder>(alloc: Global, folder: &mut F) -> Result<Vec<ImageFile>, ImageError>
-    ensures reading { IfSome (told_reading result) (IsReadingOf None (F.files folder.old) (F.calls folder.old)) }
+    ensures reading { IfSome (told_reading result) (IsReadingOf (F.files folder.old) (F.calls folder.old)) }
     ensures faults { IfSome (told_reading result) (HasFaults (F.faults folder.old) (F.faults folder.new)) }
     ensures files { F.files folder.new ≡ F.files folder.old }
     ensures image { IfOk result (λ image. IsImage (image_of image.items)) }
+
+    // The calls that were made: some number of them, and which number it is where the folder tells its files.
+    ensures calls { MadeCalls (F.calls folder.old) (F.calls folder.new) }
+    ensures made { OnSome (told_reading result) (HasMadeCalls None (F.files folder.old) (F.calls folder.old) (F.calls folder.new)) }
     ensures number { IfOk result (λ image. F.calls folder.new ≡ after_calls (vec_len image) (after_told_call (F.calls folder.old))) }
 {
     let paths = list_paths(alloc, folder)?;
@@ -185,11 +197,15 @@ pub fn read_script_image<F: Folder>(
     folder: &mut F,
     path: &str,
 ) -> Result<Vec<ImageFile>, ScriptImageError>
-    ensures reading { IfSome (told_script_reading result) (IsReadingOf (Some path.now) (F.files folder.old) (F.calls folder.old)) }
-    ensures faults { IfSome (told_script_reading result) (HasFaults (F.faults folder.old) (F.faults folder.new)) }
+    ensures found { IfSome (told_found result) (IsFoundBy (Some path.now) (F.files folder.old) (F.calls folder.old)) }
+    ensures faults { IfSome (told_found result) (HasFoundFaults (F.faults folder.old) (F.faults folder.new)) }
     ensures files { F.files folder.new ≡ F.files folder.old }
     ensures image { IfOk result (λ image. IsImage (image_of image.items)) }
     ensures alone { IfOk result (λ image. paths_of (image_of image.items) ≡ path.now ∷ []) }
+
+    // The calls that were made: some number of them, and which number it is where the folder tells its files.
+    ensures calls { MadeCalls (F.calls folder.old) (F.calls folder.new) }
+    ensures made { OnSome (told_found result) (HasMadeCalls (Some path.now) (F.files folder.old) (F.calls folder.old) (F.calls folder.new)) }
     ensures number { IfOk result (λ image. F.calls folder.new ≡ after_calls (vec_len image) (after_told_call (F.calls folder.old))) }
     ensures unread { IsErrOf result ScriptImageError.OtherFiles → F.calls folder.new ≡ after_told_call (F.calls folder.old) }
 {
@@ -200,11 +216,13 @@ pub fn read_script_image<F: Folder>(
     Ok(read_files(alloc, folder, &paths)?)
 }
 
-/// The law of readings: calls by number determine the reading, which the files alone allow, and some reading is always allowed.
-pub fn readings_are_determined()
-    ensures determined { (wanted : Option (List ℕ)) (files : Files) (calls : Calls) (reading : Reading) → IsReadingOf wanted (Some files) (Some calls) reading ↔ (reading ≡ reading_of wanted files calls) }
-    ensures allowed { (wanted : Option (List ℕ)) (files : Files) (calls : Calls) → AllowsReading wanted files (reading_of wanted files calls) }
-    ensures some { (wanted : Option (List ℕ)) (files : Option Files) (calls : Option Calls) → (reading : Reading) × IsReadingOf wanted files calls reading }
+/// The law of what is found: calls by number determine it, and the files alone allow that; something is always allowed.
+/// Where no call was counted as failed, it is what the files are.
+pub fn what_is_found_is_determined()
+    ensures determined { (wanted : Option (List ℕ)) (files : Files) (calls : Calls) (found : Found) → IsFoundBy wanted (Some files) (Some calls) found ↔ (found ≡ found_of wanted files calls) }
+    ensures allowed { (wanted : Option (List ℕ)) (files : Files) (calls : Calls) → AllowsFound wanted files (found_of wanted files calls) }
+    ensures some { (wanted : Option (List ℕ)) (files : Option Files) (calls : Option Calls) → (found : Found) × IsFoundBy wanted files calls found }
+    ensures unfailed { (wanted : Option (List ℕ)) (files : Files) (calls : Option Calls) (before now : Faults) (found : Found) → IsFoundBy wanted (Some files) calls found → HasFoundFaults before now found → now ≡ before → before.deciding + 1 < 2 ^ 64 → before.other + 1 < 2 ^ 64 → found ≡ unfailed_found wanted files }
 {}
 
 #[cfg(test)]
@@ -253,6 +271,30 @@ mod tests {
             let answer = read_image(alloc, &mut folder_of(alloc, &paths, &[failing])?);
             assert_eq!(rt; answer.err(), want, "{failing}");
         }
+        Ok(())
+    }
+
+    /// How many files the image has of 64 files that are as long as a file may be, and one more of this length; or why
+    /// there is none.
+    fn read_full(alloc: Global, last: usize) -> Result<Result<usize, ImageError>, Fail> {
+        let mut files = Vec::new(alloc);
+        for number in 0..64 {
+            let content = vec![in alloc; b'x'; 1_048_576]?;
+            files.push((format!(in alloc; "res://s{number}.gd")?, content))?;
+        }
+        let content = vec![in alloc; b'x'; last]?;
+        files.push((String::from_str(alloc, "res://t.gd")?, content))?;
+        if !MemoryFolder::can_hold(alloc, &files)? {
+            return Err(Fail::new("the paths are distinct"));
+        }
+        let mut folder = MemoryFolder::new(files, Vec::new(alloc));
+        Ok(read_image(alloc, &mut folder).map(|image| image.len()))
+    }
+
+    #[test]
+    fn a_folder_has_so_many_bytes(rt: HostRuntime) -> Result<(), Fail> {
+        assert_eq!(rt; read_full(rt.alloc(), 0)?, Ok(65));
+        assert_eq!(rt; read_full(rt.alloc(), 1)?, Err(ImageError::FolderLimit));
         Ok(())
     }
 

@@ -21,7 +21,7 @@ use Rattle.ref_objects.proofs.Steady.{links_now, links_before, links_steady}
 pub object_within : (cells : List (Option Cell)) (x : ℕ) → is_object (cell_at cells x) ≡ true → x < length cells
 object_within cells x o = elim (cases_lt x (length cells)) [ inl h ↦ h | inr h ↦ absurd (false≢true (sym (ap is_object (get_or_past cells x None h)) ∙ o)) ]
 
-object_lives : (s : Option Cell) → is_object s ≡ true → is_some s ≡ true
+pub object_lives : (s : Option Cell) → is_object s ≡ true → is_some s ≡ true
 object_lives None o = absurd (false≢true o)
 object_lives (Some c) o = refl
 

@@ -144,7 +144,7 @@ cut_fewer p (Some (ArrayCell vs of)) = omega arith
 cut_fewer p (Some (DictCell es)) = omega arith
 cut_fewer p (Some (ObjectCell o)) = omega (arith, length-filter_both (λ c. p c.target.0) (λ c. not (p c.target.0)) (λ c. refl) o.connections)
 
-node_uncounted : (s : Option Cell) → is_node s ≡ true → is_counted s ≡ false
+pub node_uncounted : (s : Option Cell) → is_node s ≡ true → is_counted s ≡ false
 node_uncounted None n = refl
 node_uncounted (Some (ArrayCell vs of)) n = absurd (false≢true n)
 node_uncounted (Some (DictCell es)) n = absurd (false≢true n)

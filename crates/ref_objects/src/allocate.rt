@@ -12,6 +12,9 @@ use variant_values::weights::cell_room;
 /// What all cells may weigh.
 pub const LIMIT: u64 = 67_108_864;
 
+/// The greatest serial that may be given.
+pub const MOST_SERIALS: u64 = 18_446_744_073_709_551_615;
+
 /// Gives a cell the next serial, and answers the weight then.
 pub fn add_cell(slots: &mut Vec<Slot>, cell: Cell, total: u64) -> Result<u64, Trouble>
     requires kept { IsKept slots.old.items total }

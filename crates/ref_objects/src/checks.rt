@@ -231,95 +231,95 @@ fn is_apart(slots: &[Slot], top: u64, x: u64, fuel: u32) -> bool
 
 impl Heap {
     pub fn knows(&self, v: &Value) -> bool
-        ensures { result ≡ knows self.now.cells v.now }
+        ensures { result ≡ knows self.now.state.cells v.now }
     {
         knows(self.slots.as_slice(), v)
     }
 
     pub fn knows_key(&self, k: &Key) -> bool
-        ensures { result ≡ knows_key self.now.cells k.now }
+        ensures { result ≡ knows_key self.now.state.cells k.now }
     {
         knows_key(self.slots.as_slice(), k)
     }
 
     pub fn knows_all(&self, values: &[Value]) -> bool
-        ensures { result ≡ true → KnowsAll self.now.cells values.now }
+        ensures { result ≡ true → KnowsAll self.now.state.cells values.now }
     {
         knows_all(self.slots.as_slice(), values)
     }
 
     pub fn knows_object(&self, s: Serial) -> bool
-        ensures { result ≡ knows_object self.now.cells s }
+        ensures { result ≡ knows_object self.now.state.cells s }
     {
         knows_object(self.slots.as_slice(), s)
     }
 
     pub fn is_given(&self, s: Serial) -> bool
-        ensures { result ≡ is_given self.now.cells s }
+        ensures { result ≡ is_given self.now.state.cells s }
     {
         0 < s.0 && (s.0 as usize) < self.slots.len()
     }
 
     pub fn is_array(&self, s: Serial) -> bool
-        ensures { result ≡ is_array (cell_at self.now.cells s.0) }
+        ensures { result ≡ is_array (cell_at self.now.state.cells s.0) }
     {
         is_array(self.slots.as_slice(), s)
     }
 
     pub fn is_dict(&self, s: Serial) -> bool
-        ensures { result ≡ is_dict (cell_at self.now.cells s.0) }
+        ensures { result ≡ is_dict (cell_at self.now.state.cells s.0) }
     {
         is_dict(self.slots.as_slice(), s)
     }
 
     pub fn is_object(&self, s: Serial) -> bool
-        ensures { result ≡ is_object (cell_at self.now.cells s.0) }
+        ensures { result ≡ is_object (cell_at self.now.state.cells s.0) }
     {
         is_object(self.slots.as_slice(), s)
     }
 
     pub fn is_node(&self, s: Serial) -> bool
-        ensures { result ≡ is_node (cell_at self.now.cells s.0) }
+        ensures { result ≡ is_node (cell_at self.now.state.cells s.0) }
     {
         is_node(self.slots.as_slice(), s)
     }
 
     pub fn is_uncounted(&self, s: Serial) -> bool
-        ensures { result ≡ true → is_counted (cell_at self.now.cells s.0) ≡ false }
+        ensures { result ≡ true → is_counted (cell_at self.now.state.cells s.0) ≡ false }
     {
         is_uncounted(self.slots.as_slice(), s)
     }
 
     pub fn items_len(&self, s: Serial) -> usize
-        ensures { result ≡ length (items_of (cell_at self.now.cells s.0)) }
+        ensures { result ≡ length (items_of (cell_at self.now.state.cells s.0)) }
     {
         items_len(self.slots.as_slice(), s)
     }
 
     /// Whether a caller holds fewer values of a cell than it may.
     pub fn is_few(&self, v: &Value) -> bool
-        ensures { result ≡ true → held_at self.now (place_of v.now) < 2 ^ 100 }
+        ensures { result ≡ true → held_at self.now.state (place_of v.now) < 2 ^ 100 }
     {
         few(self.slots.as_slice(), place_of(v))
     }
 
     /// Whether a caller holds a value of a cell.
     pub fn is_held(&self, v: &Value) -> bool
-        ensures { result ≡ true → 0 < held_at self.now (place_of v.now) }
+        ensures { result ≡ true → 0 < held_at self.now.state (place_of v.now) }
     {
         held(self.slots.as_slice(), place_of(v))
     }
 
     /// Whether a node is not in the subtree of another.
     pub fn is_apart(&self, top: Serial, s: Serial) -> bool
-        ensures { result ≡ true → IsUnder self.now.cells top.0 s.0 → ⊥ }
+        ensures { result ≡ true → IsUnder self.now.state.cells top.0 s.0 → ⊥ }
     {
         is_apart(self.slots.as_slice(), top.0, s.0, 100)
     }
 
     /// Whether an object has the field, where it lives.
     pub fn has_field(&self, s: Serial, index: u32) -> bool
-        ensures { result ≡ true → is_living self.now.cells s.0 ≡ true → is_some (field_in (cell_at self.now.cells s.0) index) ≡ true }
+        ensures { result ≡ true → is_living self.now.state.cells s.0 ≡ true → is_some (field_in (cell_at self.now.state.cells s.0) index) ≡ true }
     {
         if !lives(self.slots.as_slice(), s.0) {
             return true;
@@ -328,7 +328,7 @@ impl Heap {
     }
 
     pub fn parent(&self, s: Serial) -> Option<Serial>
-        ensures { result ≡ parent_of (cell_at self.now.cells s.0) }
+        ensures { result ≡ parent_of (cell_at self.now.state.cells s.0) }
     {
         if s.0 as usize >= self.slots.len() {
             return None;

@@ -1,6 +1,7 @@
 ghost use Rattle.std.specs.Prelude.{◌≡◌, ◌+◌, ◌<◌, ◌≤◌, ◌^◌, length, true, false, is_some, Err, OnOk, OnErr, IfOk, IfErr, Some, None, option_copied, if◌then◌else◌, ◌↔◌, ◌⊎◌};
+ghost use Rattle.variant_values.specs.declared.values.Value.{Value as AValue};
 ghost use Rattle.variant_values.specs.Places.{is_counted, place_of, weight, cell_weight};
-ghost use Rattle.variant_values.specs.Heaps.{is_given, is_array, items_of, with_splice, KnowsAll, is_dict, knows_key, with_entry_at, without_entry_at, entries_of, unlinked, is_object, objects_in, empty_heap, with_new, IsFresh, KnowsCell, knows, knows_object, cell_at, field_in, with_field, is_living, held_at, refs, retained, released};
+ghost use Rattle.variant_values.specs.Heaps.{is_given, is_array, items_of, with_splice, KnowsAll, is_dict, knows_key, with_entry_at, without_entry_at, entries_of, unlinked, is_object, objects_in, empty_heap, with_new, IsFresh, KnowsCell, knows, knows_object, cell_at, field_in, with_field, is_living, held_at, refs, serials_left, retained, released};
 ghost use Rattle.std.specs.List.{list_any};
 ghost use Rattle.std.specs.Map.{lookup};
 ghost use Rattle.std.specs.Option.{option_map};
@@ -8,9 +9,9 @@ ghost use Rattle.variant_values.specs.Keys.{same_key};
 ghost use Rattle.variant_values.specs.Sweeps.{IsSwept, swept};
 ghost use Rattle.variant_values.specs.Sound.{IsSound};
 ghost use Rattle.variant_values.specs.Links.{connections_of, connections_in, is_connection, targets_of, connected, disconnected};
-ghost use Rattle.variant_values.specs.Trees.{IsUnder, IsFreed, is_node, parent_of, with_child, with_name, with_queued};
+ghost use Rattle.variant_values.specs.Trees.{IsUnder, IsFreed, freed, is_node, parent_of, with_child, with_name, with_queued};
 
-use crate::allocate::{LIMIT, add_cell};
+use crate::allocate::{LIMIT, MOST_SERIALS, add_cell};
 use crate::arrays::store_splice;
 use crate::counts::{count, lower, place_of, raise};
 use crate::dicts::{drop_entry, store_entry};
@@ -43,20 +44,20 @@ pub struct Heap {
 }
 
 impl Model for Heap {
-    ghost use Rattle.variant_values.specs.Heaps.{Heap as AHeap};
-    ghost use Rattle.ref_objects.specs.Slots.{IsSteady, heap_of};
+    ghost use Rattle.ref_objects.specs.Views.{HeapView, seen_of};
+    ghost use Rattle.ref_objects.specs.Slots.{IsWhole};
 
-    ghost Value = { AHeap };
+    ghost Value = { HeapView };
 
-    ghost view = { λ h. heap_of h.slots.items h.queued.items };
+    ghost view = { λ h. seen_of h.slots.items h.queued.items };
 
-    ghost invariant = { λ h. IsSteady h.slots.items h.total h.links };
+    ghost invariant = { λ h. IsWhole h.slots.items h.queued.items h.total h.links };
 }
 
 impl Heap {
     /// No cells.
     pub fn new(alloc: Global) -> Result<Heap, AllocError>
-        ensures { IfOk result (λ h. h ≡ empty_heap) }
+        ensures { IfOk result (λ h. h.state ≡ empty_heap) }
     {
         let mut slots = Vec::new(alloc);
         slots.push(Slot {
@@ -74,26 +75,26 @@ impl Heap {
 
     /// A caller retains one value more.
     pub fn retain(&mut self, v: &Value)
-        requires known { knows self.old.cells v.now ≡ true }
-        requires few { held_at self.old (place_of v.now) < 2 ^ 100 }
-        ensures after { self.new ≡ retained self.old v.now }
+        requires known { knows self.old.state.cells v.now ≡ true }
+        requires few { held_at self.old.state (place_of v.now) < 2 ^ 100 }
+        ensures after { self.new.state ≡ retained self.old.state v.now }
     {
         raise(&mut self.slots, place_of(v) as usize);
     }
 
     /// A caller retains one value less. The cell stays, even where nothing holds it any more.
     pub fn release(&mut self, v: &Value)
-        requires known { knows self.old.cells v.now ≡ true }
-        requires held { is_living self.old.cells (place_of v.now) ≡ true → 0 < held_at self.old (place_of v.now) }
-        ensures after { self.new ≡ released self.old v.now }
+        requires known { knows self.old.state.cells v.now ≡ true }
+        requires held { is_living self.old.state.cells (place_of v.now) ≡ true → 0 < held_at self.old.state (place_of v.now) }
+        ensures after { self.new.state ≡ released self.old.state v.now }
     {
         lower(&mut self.slots, place_of(v) as usize);
     }
 
     /// Takes away the least set of counted cells that nothing outside it holds, and the connections to what has gone.
     pub fn sweep(&mut self)
-        ensures least { IsSwept self.old self.new }
-        ensures swept { self.new ≡ swept self.old }
+        ensures least { IsSwept self.old.state self.new.state }
+        ensures swept { self.new.state ≡ swept self.old.state }
     {
         self.total = take_zeros(&mut self.slots, self.total);
         cut_all(&mut self.slots, self.total);
@@ -101,13 +102,13 @@ impl Heap {
 
     /// Puts a value into a field of an object.
     pub fn set_field(&mut self, of: Serial, index: u32, to: Value) -> Result<(), Trouble>
-        requires of { knows_object self.old.cells of ≡ true }
-        requires field { is_living self.old.cells of.0 ≡ true → is_some (field_in (cell_at self.old.cells of.0) index) ≡ true }
-        requires to { knows self.old.cells to ≡ true }
-        ensures gone { (result ≡ Err (Trouble.Fault RunFault.FreedAccess)) ↔ (is_living self.old.cells of.0 ≡ false) }
-        ensures full { (result ≡ Err (Trouble.Fault RunFault.HeapFull)) ↔ ((is_living self.old.cells of.0 ≡ true) × (67108864 < weight (with_field self.old of.0 index to).cells)) }
-        ensures ok { OnOk result (self.new ≡ with_field self.old of.0 index to) }
-        ensures err { OnErr result (self.new ≡ self.old) }
+        requires of { knows_object self.old.state.cells of ≡ true }
+        requires field { is_living self.old.state.cells of.0 ≡ true → is_some (field_in (cell_at self.old.state.cells of.0) index) ≡ true }
+        requires to { knows self.old.state.cells to ≡ true }
+        ensures gone { (result ≡ Err (Trouble.Fault RunFault.FreedAccess)) ↔ (is_living self.old.state.cells of.0 ≡ false) }
+        ensures full { (result ≡ Err (Trouble.Fault RunFault.HeapFull)) ↔ ((is_living self.old.state.cells of.0 ≡ true) × (67108864 < weight (with_field self.old.state of.0 index to).cells)) }
+        ensures ok { OnOk result (self.new.state ≡ with_field self.old.state of.0 index to) }
+        ensures err { OnErr result (self.new.state ≡ self.old.state) }
         ensures only { IfErr result (λ e. (e ≡ Trouble.Fault RunFault.FreedAccess) ⊎ (e ≡ Trouble.Fault RunFault.HeapFull)) }
     {
         self.total = store_field(
@@ -122,8 +123,8 @@ impl Heap {
 
     /// Null where it has gone.
     pub fn weak_get(&self, of: Serial) -> Value
-        requires { knows_object self.now.cells of ≡ true }
-        ensures { result ≡ (if is_living self.now.cells of.0 then Value.Object of else Value.Null) }
+        requires { knows_object self.now.state.cells of ≡ true }
+        ensures { result ≡ (if is_living self.now.state.cells of.0 then Value.Object of else Value.Null) }
     {
         if lives(self.slots.as_slice(), of.0) {
             Value::Object(of)
@@ -134,20 +135,20 @@ impl Heap {
 
     /// The cell, where it lives. Its connections are told by `connections` and `has_connection`.
     pub fn cell(&self, of: Serial) -> Option<&Cell>
-        requires { is_given self.now.cells of ≡ true }
-        ensures { option_map unlinked (option_copied result) ≡ option_map unlinked (cell_at self.now.cells of.0) }
+        requires { is_given self.now.state.cells of ≡ true }
+        ensures { option_map unlinked (option_copied result) ≡ option_map unlinked (cell_at self.now.state.cells of.0) }
     {
         self.slots[of.0 as usize].cell.as_ref()
     }
 
     /// Gives a cell the next serial. No caller holds it yet.
     pub fn new_cell(&mut self, cell: Cell) -> Result<Serial, Trouble>
-        requires known { KnowsCell self.old.cells cell }
+        requires known { KnowsCell self.old.state.cells cell }
         requires fresh { IsFresh cell }
-        ensures full { (result ≡ Err (Trouble.Fault RunFault.HeapFull)) ↔ ((67108864 < weight self.old.cells + cell_weight cell) ⊎ (length self.old.cells ≡ 2 ^ 64)) }
-        ensures serial { IfOk result (λ s. s.0 ≡ length self.old.cells) }
-        ensures ok { OnOk result (self.new ≡ with_new self.old cell) }
-        ensures err { OnErr result (self.new ≡ self.old) }
+        ensures full { (result ≡ Err (Trouble.Fault RunFault.HeapFull)) ↔ ((67108864 < weight self.old.state.cells + cell_weight cell) ⊎ (length self.old.state.cells ≡ 2 ^ 64)) }
+        ensures serial { IfOk result (λ s. s.0 ≡ length self.old.state.cells) }
+        ensures ok { OnOk result (self.new.state ≡ with_new self.old.state cell) }
+        ensures err { OnErr result (self.new.state ≡ self.old.state) }
         ensures only { IfErr result (λ e. (e ≡ Trouble.Fault RunFault.HeapFull) ⊎ (e ≡ Trouble.NoMemory)) }
     {
         let serial = Serial(self.slots.len() as u64);
@@ -157,34 +158,40 @@ impl Heap {
 
     /// How much more the cells may weigh.
     pub fn room(&self) -> u64
-        ensures room { result + weight self.now.cells ≡ 67108864 }
-        ensures few { length self.now.cells < 2 ^ 63 }
+        ensures room { result + weight self.now.state.cells ≡ 67108864 }
     {
-        let _count = self.slots.len();
         LIMIT - self.total
+    }
+
+    /// How many serials are left to give.
+    pub fn serials_left(&self) -> u64
+        ensures left { result + length self.now.state.cells ≡ 2 ^ 64 }
+        ensures number { result ≡ serials_left self.now.state }
+    {
+        MOST_SERIALS - (self.slots.len() as u64 - 1)
     }
 
     /// A cell's count. Where the cell lives it is the number of its references: those in cells, and those that a caller retains.
     pub fn count_of(&self, of: Serial) -> u128
-        ensures living { is_living self.now.cells of.0 ≡ true → result ≡ refs self.now of.0 }
-        ensures gone { is_living self.now.cells of.0 ≡ false → result ≡ 0 }
+        ensures living { is_living self.now.state.cells of.0 ≡ true → result ≡ refs self.now.state of.0 }
+        ensures gone { is_living self.now.state.cells of.0 ≡ false → result ≡ 0 }
     {
         count(self.slots.as_slice(), of.0)
     }
 
     /// What is true of every heap.
     pub fn is_sound(&self)
-        ensures { IsSound self.now }
+        ensures { IsSound self.now.state }
     {
-        let _slots = &self.slots;
+        let _count = self.slots.len();
     }
 
     /// A field of an object.
     pub fn field(&self, of: Serial, index: u32) -> Result<&Value, RunFault>
-        requires of { knows_object self.now.cells of ≡ true }
-        requires field { is_living self.now.cells of.0 ≡ true → is_some (field_in (cell_at self.now.cells of.0) index) ≡ true }
-        ensures value { IfOk result (λ v. field_in (cell_at self.now.cells of.0) index ≡ Some v.now) }
-        ensures gone { IfErr result (λ e. (e ≡ RunFault.FreedAccess) × (is_living self.now.cells of.0 ≡ false)) }
+        requires of { knows_object self.now.state.cells of ≡ true }
+        requires field { is_living self.now.state.cells of.0 ≡ true → is_some (field_in (cell_at self.now.state.cells of.0) index) ≡ true }
+        ensures value { IfOk result (λ v. field_in (cell_at self.now.state.cells of.0) index ≡ Some v.now) }
+        ensures gone { IfErr result (λ e. (e ≡ RunFault.FreedAccess) × (is_living self.now.state.cells of.0 ≡ false)) }
     {
         match field_at(self.slots.as_slice(), of.0 as usize, index as usize) {
             Some(v) => Ok(v),
@@ -194,23 +201,23 @@ impl Heap {
 
     /// The number of objects, without arrays and dictionaries.
     pub fn live_count(&self) -> u64
-        ensures { result ≡ objects_in self.now.cells }
+        ensures { result ≡ objects_in self.now.state.cells }
     {
         count_objects(self.slots.as_slice())
     }
 
     /// The targets of a signal and their methods, in order of connection.
     pub fn connections(&self, from: Serial, signal: &Str) -> Result<Vec<(Serial, Str)>, AllocError>
-        requires { is_object (cell_at self.now.cells from.0) ≡ true }
-        ensures { IfOk result (λ found. found.items ≡ targets_of signal.now (connections_of (cell_at self.now.cells from.0))) }
+        requires { is_object (cell_at self.now.state.cells from.0) ≡ true }
+        ensures { IfOk result (λ found. found.items ≡ targets_of signal.now (connections_of (cell_at self.now.state.cells from.0))) }
     {
         links_at(self.slots.as_slice(), from.0 as usize).targets(self.alloc, signal)
     }
 
     /// Whether the signal has that connection.
     pub fn has_connection(&self, from: Serial, signal: &Str, to: Serial, method: &Str) -> bool
-        requires { is_object (cell_at self.now.cells from.0) ≡ true }
-        ensures { result ≡ list_any (is_connection signal.now to method.now) (connections_of (cell_at self.now.cells from.0)) }
+        requires { is_object (cell_at self.now.state.cells from.0) ≡ true }
+        ensures { result ≡ list_any (is_connection signal.now to method.now) (connections_of (cell_at self.now.state.cells from.0)) }
     {
         links_at(self.slots.as_slice(), from.0 as usize).has(signal, to, method)
     }
@@ -223,12 +230,12 @@ impl Heap {
         to: Serial,
         method: &Str,
     ) -> Result<(), Trouble>
-        requires from { is_object (cell_at self.old.cells from.0) ≡ true }
-        requires to { is_object (cell_at self.old.cells to.0) ≡ true }
-        requires fresh { list_any (is_connection signal.now to method.now) (connections_of (cell_at self.old.cells from.0)) ≡ false }
-        ensures full { (result ≡ Err (Trouble.Fault RunFault.HeapFull)) ↔ (connections_in self.old.cells ≡ 4294967295) }
-        ensures ok { OnOk result (self.new ≡ connected self.old from.0 (record { signal = signal.now; target = to; method = method.now })) }
-        ensures err { OnErr result (self.new ≡ self.old) }
+        requires from { is_object (cell_at self.old.state.cells from.0) ≡ true }
+        requires to { is_object (cell_at self.old.state.cells to.0) ≡ true }
+        requires fresh { list_any (is_connection signal.now to method.now) (connections_of (cell_at self.old.state.cells from.0)) ≡ false }
+        ensures full { (result ≡ Err (Trouble.Fault RunFault.HeapFull)) ↔ (connections_in self.old.state.cells ≡ 4294967295) }
+        ensures ok { OnOk result (self.new.state ≡ connected self.old.state from.0 (record { signal = signal.now; target = to; method = method.now })) }
+        ensures err { OnErr result (self.new.state ≡ self.old.state) }
         ensures only { IfErr result (λ e. (e ≡ Trouble.Fault RunFault.HeapFull) ⊎ (e ≡ Trouble.NoMemory)) }
     {
         let links = links_bound(self.slots.as_slice(), self.links);
@@ -248,9 +255,9 @@ impl Heap {
         to: Serial,
         method: &Str,
     ) -> bool
-        requires { is_object (cell_at self.old.cells from.0) ≡ true }
-        ensures found { result ≡ list_any (is_connection signal.now to method.now) (connections_of (cell_at self.old.cells from.0)) }
-        ensures after { self.new ≡ disconnected self.old from.0 signal.now to method.now }
+        requires { is_object (cell_at self.old.state.cells from.0) ≡ true }
+        ensures found { result ≡ list_any (is_connection signal.now to method.now) (connections_of (cell_at self.old.state.cells from.0)) }
+        ensures after { self.new.state ≡ disconnected self.old.state from.0 signal.now to method.now }
     {
         let found = self.has_connection(from, signal, to, method);
         drop_link(&mut self.slots, from.0 as usize, signal, to, method);
@@ -259,20 +266,20 @@ impl Heap {
 
     /// Names a node.
     pub fn set_name(&mut self, of: Serial, name: Str)
-        requires { is_node (cell_at self.old.cells of.0) ≡ true }
-        ensures { self.new ≡ with_name self.old of.0 name }
+        requires { is_node (cell_at self.old.state.cells of.0) ≡ true }
+        ensures { self.new.state ≡ with_name self.old.state of.0 name }
     {
         name_node(&mut self.slots, of.0 as usize, name);
     }
 
     /// A node becomes the last child of another.
     pub fn add_child(&mut self, parent: Serial, child: Serial) -> Result<(), AllocError>
-        requires parent { is_node (cell_at self.old.cells parent.0) ≡ true }
-        requires child { is_node (cell_at self.old.cells child.0) ≡ true }
-        requires orphan { parent_of (cell_at self.old.cells child.0) ≡ None }
-        requires above { IsUnder self.old.cells child.0 parent.0 → ⊥ }
-        ensures ok { OnOk result (self.new ≡ with_child self.old parent child) }
-        ensures err { OnErr result (self.new ≡ self.old) }
+        requires parent { is_node (cell_at self.old.state.cells parent.0) ≡ true }
+        requires child { is_node (cell_at self.old.state.cells child.0) ≡ true }
+        requires orphan { parent_of (cell_at self.old.state.cells child.0) ≡ None }
+        requires above { IsUnder self.old.state.cells child.0 parent.0 → ⊥ }
+        ensures ok { OnOk result (self.new.state ≡ with_child self.old.state parent child) }
+        ensures err { OnErr result (self.new.state ≡ self.old.state) }
     {
         adopt_node(&mut self.slots, parent.0 as usize, child)?;
         place_node(&mut self.slots, child.0 as usize, parent);
@@ -281,9 +288,9 @@ impl Heap {
 
     /// Asks for a node to be freed at the run's end.
     pub fn queue_node(&mut self, of: Serial) -> Result<(), AllocError>
-        requires { is_node (cell_at self.old.cells of.0) ≡ true }
-        ensures ok { OnOk result (self.new ≡ with_queued self.old of) }
-        ensures err { OnErr result (self.new ≡ self.old) }
+        requires { is_node (cell_at self.old.state.cells of.0) ≡ true }
+        ensures ok { OnOk result (self.new.state ≡ with_queued self.old.state of) }
+        ensures err { OnErr result (self.new.state ≡ self.old.state) }
     {
         self.queued.push(of)?;
         Ok(())
@@ -291,19 +298,19 @@ impl Heap {
 
     /// The nodes to be freed, in order of asking.
     pub fn queued(&self) -> &[Serial]
-        ensures { result.now ≡ self.now.queued }
+        ensures { result.now ≡ self.now.state.queued }
     {
         self.queued.as_slice()
     }
 
     /// Gives a dictionary an entry. A new key goes last, and a present one keeps its place.
     pub fn set_entry(&mut self, of: Serial, key: Key, to: Value) -> Result<(), Trouble>
-        requires dict { is_dict (cell_at self.old.cells of.0) ≡ true }
-        requires key { knows_key self.old.cells key ≡ true }
-        requires to { knows self.old.cells to ≡ true }
-        ensures full { (result ≡ Err (Trouble.Fault RunFault.HeapFull)) ↔ (67108864 < weight (with_entry_at self.old of.0 key to).cells) }
-        ensures ok { OnOk result (self.new ≡ with_entry_at self.old of.0 key to) }
-        ensures err { OnErr result (self.new ≡ self.old) }
+        requires dict { is_dict (cell_at self.old.state.cells of.0) ≡ true }
+        requires key { knows_key self.old.state.cells key ≡ true }
+        requires to { knows self.old.state.cells to ≡ true }
+        ensures full { (result ≡ Err (Trouble.Fault RunFault.HeapFull)) ↔ (67108864 < weight (with_entry_at self.old.state of.0 key to).cells) }
+        ensures ok { OnOk result (self.new.state ≡ with_entry_at self.old.state of.0 key to) }
+        ensures err { OnErr result (self.new.state ≡ self.old.state) }
         ensures only { IfErr result (λ e. (e ≡ Trouble.Fault RunFault.HeapFull) ⊎ (e ≡ Trouble.NoMemory)) }
     {
         self.total = store_entry(&mut self.slots, of.0 as usize, key, to, self.total)?;
@@ -312,10 +319,10 @@ impl Heap {
 
     /// Takes a key out of a dictionary, and answers whether it was there.
     pub fn remove_entry(&mut self, of: Serial, key: &Key) -> bool
-        requires dict { is_dict (cell_at self.old.cells of.0) ≡ true }
-        requires key { knows_key self.old.cells key.now ≡ true }
-        ensures found { result ≡ is_some (lookup (same_key key.now) (entries_of (cell_at self.old.cells of.0))) }
-        ensures after { self.new ≡ without_entry_at self.old of.0 key.now }
+        requires dict { is_dict (cell_at self.old.state.cells of.0) ≡ true }
+        requires key { knows_key self.old.state.cells key.now ≡ true }
+        ensures found { result ≡ is_some (lookup (same_key key.now) (entries_of (cell_at self.old.state.cells of.0))) }
+        ensures after { self.new.state ≡ without_entry_at self.old.state of.0 key.now }
     {
         match drop_entry(&mut self.slots, of.0 as usize, key, self.total) {
             Some(left) => {
@@ -334,12 +341,12 @@ impl Heap {
         out: usize,
         put: Vec<Value>,
     ) -> Result<(), Trouble>
-        requires array { is_array (cell_at self.old.cells of.0) ≡ true }
-        requires items { at + out ≤ length (items_of (cell_at self.old.cells of.0)) }
-        requires put { KnowsAll self.old.cells put.items }
-        ensures full { (result ≡ Err (Trouble.Fault RunFault.HeapFull)) ↔ (67108864 < weight (with_splice self.old of.0 at out put.items).cells) }
-        ensures ok { OnOk result (self.new ≡ with_splice self.old of.0 at out put.items) }
-        ensures err { OnErr result (self.new ≡ self.old) }
+        requires array { is_array (cell_at self.old.state.cells of.0) ≡ true }
+        requires items { at + out ≤ length (items_of (cell_at self.old.state.cells of.0)) }
+        requires put { KnowsAll self.old.state.cells put.items }
+        ensures full { (result ≡ Err (Trouble.Fault RunFault.HeapFull)) ↔ (67108864 < weight (with_splice self.old.state of.0 at out put.items).cells) }
+        ensures ok { OnOk result (self.new.state ≡ with_splice self.old.state of.0 at out put.items) }
+        ensures err { OnErr result (self.new.state ≡ self.old.state) }
         ensures only { IfErr result (λ e. (e ≡ Trouble.Fault RunFault.HeapFull) ⊎ (e ≡ Trouble.NoMemory)) }
     {
         self.total = store_splice(
@@ -354,14 +361,17 @@ impl Heap {
         Ok(())
     }
 
-    /// Takes an object away at once, with a node's whole subtree and the connections from and to them.
+    /// Takes an object away at once, with a node's whole subtree and the connections from and to them. What was known stays
+    /// known: what names an object that went names one that has gone.
     pub fn free_node(&mut self, of: Serial) -> Result<(), RunFault>
-        requires of { knows_object self.old.cells of ≡ true }
-        requires uncounted { is_counted (cell_at self.old.cells of.0) ≡ false }
-        ensures ok { OnOk result (IsFreed self.old self.new of.0) }
-        ensures gone { IfErr result (λ e. (e ≡ RunFault.FreedAccess) × (is_living self.old.cells of.0 ≡ false)) }
-        ensures lives { OnOk result (is_living self.old.cells of.0 ≡ true) }
-        ensures err { OnErr result (self.new ≡ self.old) }
+        requires of { knows_object self.old.state.cells of ≡ true }
+        requires uncounted { is_counted (cell_at self.old.state.cells of.0) ≡ false }
+        ensures ok { OnOk result (IsFreed self.old.state self.new.state of.0) }
+        ensures freed { OnOk result (self.new.state ≡ freed self.old.state of.0) }
+        ensures keeps { (v : AValue) → knows self.old.state.cells v ≡ true → knows self.new.state.cells v ≡ true }
+        ensures gone { IfErr result (λ e. (e ≡ RunFault.FreedAccess) × (is_living self.old.state.cells of.0 ≡ false)) }
+        ensures lives { OnOk result (is_living self.old.state.cells of.0 ≡ true) }
+        ensures err { OnErr result (self.new.state ≡ self.old.state) }
     {
         if !lives(self.slots.as_slice(), of.0) {
             return Err(RunFault::FreedAccess);

@@ -472,6 +472,8 @@ fn names_queue_and_weak_references(rt: HostRuntime) -> Result<(), Fail> {
     free(&rt, &mut heap, n)?;
     assert!(rt; heap.knows_object(n));
     assert!(rt; matches!(heap.weak_get(n), Value::Null));
+    assert_eq!(rt; heap.queued(), [n].as_slice());
+    assert_eq!(rt; heap.serials_left(), 18_446_744_073_709_551_614);
     Ok(())
 }
 

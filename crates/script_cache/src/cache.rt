@@ -21,5 +21,5 @@ pub type CachePass<O> = Pass<SharedCore<O>>;
 pub struct ScriptCache<W: StageWork> {
     work: W,
     lock: TurnLock<SharedCore<W::Out>>,
-    ghost same_project: { project_of (λ s. s.core.project) lock ≡ W.project work },
+    ghost same_project: { project_of (λ s. s.core.state.project) lock ≡ W.project work },
 }

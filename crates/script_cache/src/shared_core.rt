@@ -17,11 +17,11 @@ impl<O: StageOut> Told for SharedCore<O> {
 
     type State = TasksInProgress;
 
-    ghost project = { λ s. s.core.project };
+    ghost project = { λ s. s.core.state.project };
 
-    ghost log = { λ s. s.core.log };
+    ghost log = { λ s. s.core.state.log };
 
-    ghost state = { λ s. s.core.in_progress };
+    ghost state = { λ s. s.core.state.in_progress };
 
     fn log_len(&self) -> u64 {
         self.core.log_len()

@@ -122,6 +122,21 @@ fn two_tasks_of_two_files(rt: HostRuntime) -> Result<(), Fail> {
     Ok(())
 }
 
+/// A status and a load of a file that nobody requested request nothing.
+#[test]
+fn looks_request_nothing(rt: HostRuntime) -> Result<(), Fail> {
+    let alloc = rt.alloc();
+    let paths = Paths::new(alloc)?;
+    let (cache, mut pass) = ScriptCache::open(alloc, SampleWork::new(alloc, false)?)?;
+    let status = cache.try_status(&mut pass, &paths.b);
+    let answer = cache.try_answer(alloc, &mut pass, &paths.b);
+    let none = no_claim(&rt, alloc, &cache, &mut pass);
+    assert_eq!(rt; status, Ok(RefStatus::Empty));
+    assert_eq!(rt; answer.err(), Some(CacheAnswerError::Unfinished));
+    assert_eq!(rt; none, Some(ClaimError::AllDone));
+    Ok(())
+}
+
 /// A path that the project does not have is told of first.
 #[test]
 fn no_such_file(rt: HostRuntime) -> Result<(), Fail> {

@@ -13,6 +13,7 @@ use Rattle.stage_core.specs.Value.{IsTaskOf, HoldsUpTo, AreNeedsOf}
 use Rattle.stage_core.proofs.Grow.{added, outcomes-push, Reaches-back}
 use Rattle.stage_core.proofs.Legal.{Laws, AreValues, values_hold, known_in}
 use Rattle.stage_core.proofs.NeedOutcomes.{in_place, needed_pos, some_outcome}
+use Rattle.stage_core.proofs.Reach.{none_twice}
 
 in_map : {X : Type 0} (f : X → ℕ) (xs : List X) (k : ℕ) (d : X) → k < length xs → Contains (map f xs) (f (get_or xs k d))
 in_map f [] k d l = absurd (omega arith)
@@ -157,6 +158,7 @@ module _ {O P : Type 0} (g : Ghosts O P) (project : P) where
             λ c. let need = (n.each other).0 c in record { above = need.above; reached = Reaches-on (direct_needs g log stage) next file (same need.above) other need.reached },
             λ need. (n.each other).1 (record { above = need.above; reached = Reaches-back (direct_needs g log stage) next file (same need.above) other need.reached }),
           );
+          once = n.once.once;
           hold = λ k d l.
               let need = get_or needs k d in
               let is_need = (n.each need.file).0 (in_map (λ m. m.file) needs k d l) in
@@ -164,4 +166,4 @@ module _ {O P : Type 0} (g : Ghosts O P) (project : P) where
         }
 
 pub no_needs_of : {O P : Type 0} (g : Ghosts O P) (project : P) (file stage : ℕ) → stage < 2 → AreNeedsOf g project file stage []
-no_needs_of g project file stage l = record { each = λ other. (λ c. absurd (omega arith), λ n. absurd (let above = n.above in omega arith)); hold = λ k d h. absurd (omega arith) }
+no_needs_of g project file stage l = record { each = λ other. (λ c. absurd (omega arith), λ n. absurd (let above = n.above in omega arith)); once = none_twice; hold = λ k d h. absurd (omega arith) }

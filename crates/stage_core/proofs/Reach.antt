@@ -1,8 +1,11 @@
 -- The least set, as a list that can be searched.
-use Rattle.std.proofs.Common.{◌≡◌, ℕ, zero, suc, ◌+◌, ◌<◌, ◌≤◌, ◌⊎◌, ◌↔◌, inl, inr, Bool, true, false, ◌||◌, cond, eqb, List, [], ◌∷◌, ◌++◌, length, Contains, take, get_or, refl, sym, ap, ◌∙◌, subst, arith, length-append, take_all}
+use Rattle.std.proofs.Common.{◌≡◌, ℕ, zero, suc, ◌+◌, ◌<◌, ◌≤◌, ◌⊎◌, ◌↔◌, inl, inr, Bool, true, false, ◌||◌, cond, eqb, nat_eq, List, [], ◌∷◌, ◌++◌, length, Contains, take, get_or, refl, sym, ap, ◌∙◌, subst, arith, length-append, take_all}
 use Rattle.std.proofs.lemmas.List.{take-append-le, take_more}
 use Rattle.std.proofs.lemmas.Bool.Decides.{nat_tests, eqb_tells}
 use Rattle.std.proofs.lemmas.List.Elements.{Contains-push, Contains-push_cases, Contains-append_left, Contains-append_right, Contains-append_cases}
+use Rattle.std.proofs.lemmas.Cmp.{nat_eq_equiv}
+use Rattle.std.proofs.lemmas.Map.Keys.{IsDistinct-push}
+use Rattle.std.specs.List.{list_any, IsDistinct}
 use Rattle.stage_core.specs.Stages.{Reaches, here, on}
 use Rattle.stage_core.specs.FileSets.{is_in, missing, IsFileSet, with_file, with_files}
 
@@ -156,12 +159,22 @@ unfolding with_file
 with_file_has xs y =
     elim (is_in y xs) as (λ t. is_in y xs ≡ t → Contains (cond t xs (xs ++ y ∷ [])) y) [ true ↦ λ e. Contains-from_is_in y xs e | false ↦ λ e. Contains-push xs y ] refl
 
+pub none_twice : IsDistinct nat_eq []
+unfolding IsDistinct
+none_twice = tt
+
+-- the test of `IsDistinct`, which compares the other way round
+test_is_in : (y : ℕ) (xs : List ℕ) → list_any (nat_eq y) xs ≡ is_in y xs
+unfolding is_in
+test_is_in y [] = refl
+test_is_in y (x ∷ xs) = rw (nat_eq_equiv.symm y x, test_is_in y xs) refl
+
 pub with_file_set : (n : ℕ) (xs : List ℕ) (y : ℕ) → y < n → IsFileSet n xs → IsFileSet n (with_file xs y)
 unfolding with_file
 with_file_set n xs y l m =
     elim (is_in y xs) as (λ t. is_in y xs ≡ t → IsFileSet n (cond t xs (xs ++ y ∷ []))) [
       | true ↦ λ e. m
-      | false ↦ λ e. record { counted = omega (arith, missing-push n xs y l e, length-append xs (y ∷ []), m.counted) }
+      | false ↦ λ e. record { once = IsDistinct-push nat_eq_equiv xs y m.once (test_is_in y xs ∙ e); counted = omega (arith, missing-push n xs y l e, length-append xs (y ∷ []), m.counted) }
     ] refl
 
 -- there is room for one more
@@ -254,7 +267,7 @@ search_end next n first xs at l s b r = closed_holds next xs (λ x y c h. s.clos
 pub ruleset file_set_steps = (file_set_room, with_file_set)
 
 pub empty_file_set : (n : ℕ) → IsFileSet n []
-empty_file_set n = record { counted = omega (arith, missing-nil n) }
+empty_file_set n = record { once = none_twice; counted = omega (arith, missing-nil n) }
 
 pub Contains-take_more : (xs : List ℕ) (i y : ℕ) → i < length xs → Contains (take (i + 1) xs) y → Contains (take i xs) y ⊎ (get_or xs i 0 ≡ y)
 Contains-take_more xs i y l c = Contains-push_cases (take i xs) (get_or xs i 0) y (subst (λ ys. Contains ys y) (take_more xs i 0 l) c)

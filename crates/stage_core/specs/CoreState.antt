@@ -12,8 +12,12 @@ pub record Task (P O : Type 0) : Type 0 where
   pub file : ℕ
   pub stage : ℕ
 
-abbrev pub state : {P O : Type 0} → P → List (Entry O) → List ℕ → State P O
-state project log in_progress = record { project = project; log = log; in_progress = in_progress }
+-- what contracts see of a core
+pub record CoreValue (P O : Type 0) : Type 0 where
+  pub state : State P O
+
+abbrev pub state_of : {P O : Type 0} → P → List (Entry O) → List ℕ → State P O
+state_of project log in_progress = record { project = project; log = log; in_progress = in_progress }
 
 -- what holds of each core: the log is one that the events can make, and all its room is there
 pub record IsCoreState {O P : Type 0} (g : Ghosts O P) (s : State P O) (files row_room known_room visited_room : ℕ) : Type 0 where

@@ -1,6 +1,6 @@
 -- Lists of files as sets.
-use Rattle.std.specs.Prelude.{◌≡◌, ℕ, zero, suc, ◌+◌, Bool, List, [], ◌∷◌, ◌++◌, length, cond, ◌==◌}
-use Rattle.std.specs.List.{list_any}
+use Rattle.std.specs.Prelude.{◌≡◌, ℕ, zero, suc, ◌+◌, Bool, List, [], ◌∷◌, ◌++◌, length, cond, nat_eq, ◌==◌}
+use Rattle.std.specs.List.{list_any, IsDistinct}
 
 -- whether y is one of xs
 unfoldable pub is_in : ℕ → List ℕ → Bool
@@ -13,6 +13,7 @@ missing (suc n) xs = missing n xs + cond (is_in n xs) 0 1
 
 -- they differ, and each is below n
 pub record IsFileSet (n : ℕ) (xs : List ℕ) : Type 0 where
+  pub once : IsDistinct nat_eq xs
   pub counted : length xs + missing n xs ≡ n
 
 -- with one more, unless it is there

@@ -1,5 +1,6 @@
 -- The tasks of a project, and what they need.
-use Rattle.std.specs.Prelude.{◌≡◌, ℕ, ◌<◌, ◌≤◌, ◌↔◌, true, List, map, All, Contains}
+use Rattle.std.specs.Prelude.{◌≡◌, ℕ, ◌<◌, ◌≤◌, ◌↔◌, true, nat_eq, List, map, All, Contains}
+use Rattle.std.specs.List.{IsDistinct}
 use Rattle.stage_core.specs.declared.work.StageOut.{Ghosts}
 use Rattle.stage_core.specs.declared.work.StageValue.TheVariants.{Done}
 use Rattle.stage_core.specs.declared.work.Need.{Need}
@@ -27,7 +28,8 @@ module _ {O P : Type 0} (g : Ghosts O P) (project : P) where
     pub holds : HoldsValue g project file at o
     pub earlier : at < stage → is_final o ≡ true
 
-  -- these are the needs of the task, with their values
+  -- these are the needs of the task, each once, with their values
   pub record AreNeedsOf (file stage : ℕ) (needs : List (Need O)) : Type 0 where
     pub each : (other : ℕ) → Contains (map (λ n. n.file) needs) other ↔ IsNeedOf file stage other
+    pub once : IsDistinct nat_eq (map (λ n. n.file) needs)
     pub hold : All (λ n. HoldsUpTo n.file (stage_needed file stage n.file) (value_of n.outcome)) needs

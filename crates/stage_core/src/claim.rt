@@ -32,9 +32,9 @@ impl<O: StageOut> Model for Claim<O> {
 
     ghost use Rattle.stage_core.specs.Machine.{IsOpen};
 
-    ghost view = { λ c. record { project = c.core.value.project; log = c.core.value.log; file = c.file; stage = c.stage } };
+    ghost view = { λ c. record { project = c.core.value.state.project; log = c.core.value.state.log; file = c.file; stage = c.stage } };
 
-    ghost invariant = { λ c. IsOpen O.StageOut c.core.value.log c.file c.stage };
+    ghost invariant = { λ c. IsOpen O.StageOut c.core.value.state.log c.file c.stage };
 }
 
 impl<O: StageOut> Claim<O> {
@@ -55,8 +55,8 @@ impl<O: StageOut> Claim<O> {
     /// A core whose log begins with the claim's has the task open. It does nothing, and serves proofs of callers that
     /// hold a claim over other calls.
     pub fn stays_open(&self, core: &Core<O>)
-        requires later { Begins self.now.log core.now.log }
-        ensures open { IsOpen O.StageOut core.now.log self.now.file self.now.stage }
+        requires later { Begins self.now.log core.now.state.log }
+        ensures open { IsOpen O.StageOut core.now.state.log self.now.file self.now.stage }
     {
         let _ = core;
         let _ = &self.core;

@@ -37,26 +37,26 @@ pub struct Core<O: StageOut> {
 }
 
 impl<O: StageOut> Model for Core<O> {
-    ghost use Rattle.stage_core.specs.Log.{State};
+    ghost use Rattle.stage_core.specs.CoreState.{CoreValue};
 
-    ghost Value = { State O.Project O };
+    ghost Value = { CoreValue O.Project O };
 
     ghost use Rattle.std.specs.Prelude.{vec_capacity};
     ghost use Rattle.stage_core.specs.Rows.{log_of};
-    ghost use Rattle.stage_core.specs.CoreState.{IsCoreState, state};
+    ghost use Rattle.stage_core.specs.CoreState.{IsCoreState, state_of};
 
-    ghost view = { λ c. state c.project.value (log_of c.rows.items) c.in_progress.items };
+    ghost view = { λ c. record { state = state_of c.project.value (log_of c.rows.items) c.in_progress.items } };
 
-    ghost invariant = { λ c. IsCoreState O.StageOut (state c.project.value (log_of c.rows.items) c.in_progress.items) c.files (vec_capacity c.rows) (vec_capacity c.known) (vec_capacity c.visited) };
+    ghost invariant = { λ c. IsCoreState O.StageOut (state_of c.project.value (log_of c.rows.items) c.in_progress.items) c.files (vec_capacity c.rows) (vec_capacity c.known) (vec_capacity c.visited) };
 }
 
 impl<O: StageOut> Core<O> {
     /// A core of a project with this number of files.
     pub fn new(alloc: Global, project: &O::Project, files: u32) -> Result<Core<O>, AllocError>
         requires { files ≡ O.files project.now }
-        ensures start { IfOk result (λ core. core ≡ start O.StageOut project.now) }
-        ensures project { IfOk result (λ core. core.project ≡ project.now) }
-        ensures idle { IfOk result (λ core. (file : ℕ) → slice_index core.in_progress file ≡ 0) }
+        ensures start { IfOk result (λ core. core.state ≡ start O.StageOut project.now) }
+        ensures project { IfOk result (λ core. core.state.project ≡ project.now) }
+        ensures idle { IfOk result (λ core. (file : ℕ) → slice_index core.state.in_progress file ≡ 0) }
     {
         let room = files as usize;
         let rows = Vec::with_capacity(alloc, 11 * room)?;
@@ -75,8 +75,8 @@ impl<O: StageOut> Core<O> {
 
     /// The number of entries of the log.
     pub fn log_len(&self) -> u64
-        ensures value { result ≡ length self.now.log }
-        ensures few { result ≤ 11 * O.files self.now.project }
+        ensures value { result ≡ length self.now.state.log }
+        ensures few { result ≤ 11 * O.files self.now.state.project }
     {
         self.rows.len() as u64
     }
@@ -85,18 +85,18 @@ impl<O: StageOut> Core<O> {
     /// are published, and while a known file is unfinished a task is ready or under way. It does nothing, and serves
     /// proofs of callers.
     pub fn is_consistent(&self)
-        ensures consistent { IsConsistent O.StageOut self.now.project self.now }
+        ensures consistent { IsConsistent O.StageOut self.now.state.project self.now.state }
     {
         let _ = &self.project;
     }
 
     /// Makes a file known. A repeat changes nothing.
     pub fn request(&mut self, file: u32)
-        requires { file < O.files self.old.project }
-        ensures after { self.new ≡ requested self.old file }
-        ensures project { self.new.project ≡ self.old.project }
-        ensures grows { Begins self.old.log self.new.log }
-        ensures extends { (earlier : List (Entry O)) → Begins earlier self.old.log → Begins earlier self.new.log }
+        requires { file < O.files self.old.state.project }
+        ensures after { self.new.state ≡ requested self.old.state file }
+        ensures project { self.new.state.project ≡ self.old.state.project }
+        ensures grows { Begins self.old.state.log self.new.state.log }
+        ensures extends { (earlier : List (Entry O)) → Begins earlier self.old.state.log → Begins earlier self.new.state.log }
     {
         if !has_request(&self.rows, file) {
             self.rows.push_reserved(LogRow::Request(file));
@@ -105,18 +105,18 @@ impl<O: StageOut> Core<O> {
 
     /// Takes a task that is ready, which is under way from now on.
     pub fn claim(&mut self) -> Result<Claim<O>, NoClaim>
-        ensures task { IfOk result (λ claim. IsReady O.StageOut self.old.log self.old.in_progress claim.file claim.stage × (claim.project ≡ self.old.project) × (self.new ≡ claimed self.old claim.file claim.stage)) }
-        ensures at { IfOk result (λ claim. claim.log ≡ self.new.log) }
-        ensures begins { IfOk result (λ claim. Begins claim.log self.new.log) }
-        ensures open { IfOk result (λ claim. IsOpen O.StageOut self.new.log claim.file claim.stage) }
-        ensures next { IfOk result (λ claim. claim.stage ≡ length (outcomes self.new.log claim.file) + 1) }
-        ensures all_done { (result ≡ Err NoClaim.AllDone) ↔ ((file : ℕ) → IsKnown O.StageOut self.old.log file → is_done_at (outcomes self.old.log file) 5 ≡ true) }
-        ensures nothing_ready { (result ≡ Err NoClaim.NothingReady) ↔ (((file stage : ℕ) → IsReady O.StageOut self.old.log self.old.in_progress file stage → ⊥) × (result ≢ Err NoClaim.AllDone)) }
-        ensures busy { result ≡ Err NoClaim.NothingReady → ((file : ℕ) × (stage : ℕ) × IsInProgress self.old.in_progress file stage) }
-        ensures err { OnErr result (self.new ≡ self.old) }
-        ensures project { self.new.project ≡ self.old.project }
-        ensures grows { Begins self.old.log self.new.log }
-        ensures extends { (earlier : List (Entry O)) → Begins earlier self.old.log → Begins earlier self.new.log }
+        ensures task { IfOk result (λ claim. IsReady O.StageOut self.old.state.log self.old.state.in_progress claim.file claim.stage × (claim.project ≡ self.old.state.project) × (self.new.state ≡ claimed self.old.state claim.file claim.stage)) }
+        ensures at { IfOk result (λ claim. claim.log ≡ self.new.state.log) }
+        ensures begins { IfOk result (λ claim. Begins claim.log self.new.state.log) }
+        ensures open { IfOk result (λ claim. IsOpen O.StageOut self.new.state.log claim.file claim.stage) }
+        ensures next { IfOk result (λ claim. claim.stage ≡ length (outcomes self.new.state.log claim.file) + 1) }
+        ensures all_done { (result ≡ Err NoClaim.AllDone) ↔ ((file : ℕ) → IsKnown O.StageOut self.old.state.log file → is_done_at (outcomes self.old.state.log file) 5 ≡ true) }
+        ensures nothing_ready { (result ≡ Err NoClaim.NothingReady) ↔ (((file stage : ℕ) → IsReady O.StageOut self.old.state.log self.old.state.in_progress file stage → ⊥) × (result ≢ Err NoClaim.AllDone)) }
+        ensures busy { result ≡ Err NoClaim.NothingReady → ((file : ℕ) × (stage : ℕ) × IsInProgress self.old.state.in_progress file stage) }
+        ensures err { OnErr result (self.new.state ≡ self.old.state) }
+        ensures project { self.new.state.project ≡ self.old.state.project }
+        ensures grows { Begins self.old.state.log self.new.state.log }
+        ensures extends { (earlier : List (Entry O)) → Begins earlier self.old.state.log → Begins earlier self.new.state.log }
     {
         match self.next_task() {
             Ok((file, stage)) => {
@@ -133,11 +133,11 @@ impl<O: StageOut> Core<O> {
 
     /// A task that may be claimed.
     fn next_task(&mut self) -> Result<(u32, u8), NoClaim>
-        ensures task { IfOk result (λ task. IsReady O.StageOut self.old.log self.old.in_progress task.0 task.1) }
-        ensures all_done { (result ≡ Err NoClaim.AllDone) ↔ ((file : ℕ) → IsKnown O.StageOut self.old.log file → is_done_at (outcomes self.old.log file) 5 ≡ true) }
-        ensures nothing_ready { (result ≡ Err NoClaim.NothingReady) ↔ (((file stage : ℕ) → IsReady O.StageOut self.old.log self.old.in_progress file stage → ⊥) × (result ≢ Err NoClaim.AllDone)) }
-        ensures busy { result ≡ Err NoClaim.NothingReady → ((file : ℕ) × (stage : ℕ) × IsInProgress self.old.in_progress file stage) }
-        ensures unchanged { self.new ≡ self.old }
+        ensures task { IfOk result (λ task. IsReady O.StageOut self.old.state.log self.old.state.in_progress task.0 task.1) }
+        ensures all_done { (result ≡ Err NoClaim.AllDone) ↔ ((file : ℕ) → IsKnown O.StageOut self.old.state.log file → is_done_at (outcomes self.old.state.log file) 5 ≡ true) }
+        ensures nothing_ready { (result ≡ Err NoClaim.NothingReady) ↔ (((file stage : ℕ) → IsReady O.StageOut self.old.state.log self.old.state.in_progress file stage → ⊥) × (result ≢ Err NoClaim.AllDone)) }
+        ensures busy { result ≡ Err NoClaim.NothingReady → ((file : ℕ) × (stage : ℕ) × IsInProgress self.old.state.in_progress file stage) }
+        ensures unchanged { self.new.state ≡ self.old.state }
     {
         find_known(&self.rows, self.files, &mut self.known);
         let task = ready_task(
@@ -157,12 +157,12 @@ impl<O: StageOut> Core<O> {
     }
 
     fn start_task(&mut self, file: u32, stage: u8)
-        requires { IsReady O.StageOut self.old.log self.old.in_progress file stage }
-        ensures taken { self.new ≡ claimed self.old file stage }
-        ensures open { IsOpen O.StageOut self.new.log file stage }
-        ensures next { stage ≡ length (outcomes self.new.log file) + 1 }
-        ensures grows { Begins self.old.log self.new.log }
-        ensures extends { (earlier : List (Entry O)) → Begins earlier self.old.log → Begins earlier self.new.log }
+        requires { IsReady O.StageOut self.old.state.log self.old.state.in_progress file stage }
+        ensures taken { self.new.state ≡ claimed self.old.state file stage }
+        ensures open { IsOpen O.StageOut self.new.state.log file stage }
+        ensures next { stage ≡ length (outcomes self.new.state.log file) + 1 }
+        ensures grows { Begins self.old.state.log self.new.state.log }
+        ensures extends { (earlier : List (Entry O)) → Begins earlier self.old.state.log → Begins earlier self.new.state.log }
     {
         self.in_progress[file as usize] = stage;
         if !has_claim(&self.rows, file, stage) {
@@ -173,11 +173,11 @@ impl<O: StageOut> Core<O> {
     /// The files that the task needs, each with the outcome of the stage that the task needs of it, or with its last
     /// one where it was finished earlier.
     pub fn needs(&self, alloc: Global, claim: &Claim<O>) -> Result<Vec<Need<O>>, AllocError>
-        requires project { claim.now.project ≡ self.now.project }
-        requires task { IsOpen O.StageOut self.now.log claim.now.file claim.now.stage }
-        ensures by_log { IfOk result (λ needs. AreNeeds O.StageOut (O.files self.now.project) self.now.log claim.now.file claim.now.stage needs.items) }
-        ensures task { IfOk result (λ _. IsTaskOf O.StageOut self.now.project claim.now.file claim.now.stage) }
-        ensures values { IfOk result (λ needs. AreNeedsOf O.StageOut self.now.project claim.now.file claim.now.stage needs.items) }
+        requires project { claim.now.project ≡ self.now.state.project }
+        requires task { IsOpen O.StageOut self.now.state.log claim.now.file claim.now.stage }
+        ensures by_log { IfOk result (λ needs. AreNeeds O.StageOut (O.files self.now.state.project) self.now.state.log claim.now.file claim.now.stage needs.items) }
+        ensures task { IfOk result (λ _. IsTaskOf O.StageOut self.now.state.project claim.now.file claim.now.stage) }
+        ensures values { IfOk result (λ needs. AreNeedsOf O.StageOut self.now.state.project claim.now.file claim.now.stage needs.items) }
     {
         let file = claim.file;
         let stage = claim.stage;
@@ -194,14 +194,14 @@ impl<O: StageOut> Core<O> {
 
     /// Logs the task's outcome, and ends the task. Where the stage is in the log already, nothing changes.
     pub fn publish(&mut self, claim: Claim<O>, outcome: Outcome<O>)
-        requires project { claim.project ≡ self.old.project }
-        requires task { IsOpen O.StageOut self.old.log claim.file claim.stage }
-        requires value { HoldsValue O.StageOut self.old.project claim.file claim.stage (value_of outcome) }
-        ensures after { self.new ≡ published self.old claim.file claim.stage (value_of outcome) }
-        ensures project { self.new.project ≡ self.old.project }
-        ensures few { length self.new.log ≤ 11 * O.files self.new.project }
-        ensures grows { Begins self.old.log self.new.log }
-        ensures extends { (earlier : List (Entry O)) → Begins earlier self.old.log → Begins earlier self.new.log }
+        requires project { claim.project ≡ self.old.state.project }
+        requires task { IsOpen O.StageOut self.old.state.log claim.file claim.stage }
+        requires value { HoldsValue O.StageOut self.old.state.project claim.file claim.stage (value_of outcome) }
+        ensures after { self.new.state ≡ published self.old.state claim.file claim.stage (value_of outcome) }
+        ensures project { self.new.state.project ≡ self.old.state.project }
+        ensures few { length self.new.state.log ≤ 11 * O.files self.new.state.project }
+        ensures grows { Begins self.old.state.log self.new.state.log }
+        ensures extends { (earlier : List (Entry O)) → Begins earlier self.old.state.log → Begins earlier self.new.state.log }
     {
         let Claim {
             core: _,
@@ -217,14 +217,14 @@ impl<O: StageOut> Core<O> {
 
     /// Ends the task without an outcome: it is ready again. Where the stage is in the log already, nothing changes.
     pub fn give_back(&mut self, claim: Claim<O>)
-        requires project { claim.project ≡ self.old.project }
-        requires task { IsOpen O.StageOut self.old.log claim.file claim.stage }
-        ensures after { self.new ≡ given_back self.old claim.file claim.stage }
-        ensures same { self.new.log ≡ self.old.log }
-        ensures project { self.new.project ≡ self.old.project }
-        ensures few { length self.new.log ≤ 11 * O.files self.new.project }
-        ensures grows { Begins self.old.log self.new.log }
-        ensures extends { (earlier : List (Entry O)) → Begins earlier self.old.log → Begins earlier self.new.log }
+        requires project { claim.project ≡ self.old.state.project }
+        requires task { IsOpen O.StageOut self.old.state.log claim.file claim.stage }
+        ensures after { self.new.state ≡ given_back self.old.state claim.file claim.stage }
+        ensures same { self.new.state.log ≡ self.old.state.log }
+        ensures project { self.new.state.project ≡ self.old.state.project }
+        ensures few { length self.new.state.log ≤ 11 * O.files self.new.state.project }
+        ensures grows { Begins self.old.state.log self.new.state.log }
+        ensures extends { (earlier : List (Entry O)) → Begins earlier self.old.state.log → Begins earlier self.new.state.log }
     {
         let Claim {
             core: _,
@@ -239,18 +239,18 @@ impl<O: StageOut> Core<O> {
 
     /// How far the file has come.
     pub fn status(&self, file: u32) -> RefStatus
-        requires { file < O.files self.now.project }
-        ensures { result ≡ status_of (outcomes self.now.log file) }
+        requires { file < O.files self.now.state.project }
+        ensures { result ≡ status_of (outcomes self.now.state.log file) }
     {
         status(&self.rows, file)
     }
 
     /// The load of the file: the results of stage 5 of its closure, or the faults there, both by path.
     pub fn answer(&self, alloc: Global, file: u32) -> Result<Answer<O>, AnswerError>
-        requires { file < O.files self.now.project }
-        ensures load { IfOk result (λ answer. IsAnswer O.StageOut self.now.project file answer) }
-        ensures finished { IfOk result (λ _. (other : ℕ) → InClosure O.StageOut self.now.project file other → is_done_at (outcomes self.now.log other) 5 ≡ true) }
-        ensures unfinished { result ≡ Err AnswerError.Unfinished → ((other : ℕ) × InClosure O.StageOut self.now.project file other × (is_done_at (outcomes self.now.log other) 5 ≡ false)) }
+        requires { file < O.files self.now.state.project }
+        ensures load { IfOk result (λ answer. IsAnswer O.StageOut self.now.state.project file answer) }
+        ensures finished { IfOk result (λ _. (other : ℕ) → InClosure O.StageOut self.now.state.project file other → is_done_at (outcomes self.now.state.log other) 5 ≡ true) }
+        ensures unfinished { result ≡ Err AnswerError.Unfinished → ((other : ℕ) × InClosure O.StageOut self.now.state.project file other × (is_done_at (outcomes self.now.state.log other) 5 ≡ false)) }
     {
         let files = self.files;
         let mut visited = Vec::with_capacity(alloc, files as usize)?;

@@ -22,9 +22,9 @@ fn compute<W: StageWork>(
     core: &Core<W::Out>,
     claim: &Claim<W::Out>,
 ) -> Result<Outcome<W::Out>, AllocError>
-    requires of_work { core.now.project ≡ W.project work.now }
-    requires project { claim.now.project ≡ core.now.project }
-    requires task { IsOpen W.Out.StageOut core.now.log claim.now.file claim.now.stage }
+    requires of_work { core.now.state.project ≡ W.project work.now }
+    requires project { claim.now.project ≡ core.now.state.project }
+    requires task { IsOpen W.Out.StageOut core.now.state.log claim.now.file claim.now.stage }
     ensures { IfOk result (λ outcome. HoldsValue W.Out.StageOut (W.project work.now) claim.now.file claim.now.stage (value_of outcome)) }
 {
     let needs = core.needs(alloc, claim)?;
@@ -37,8 +37,8 @@ fn step<W: StageWork>(
     work: &W,
     core: &mut Core<W::Out>,
 ) -> Result<Option<(u32, u8)>, AllocError>
-    requires { core.old.project ≡ W.project work.now }
-    ensures { core.new.project ≡ W.project work.now }
+    requires { core.old.state.project ≡ W.project work.now }
+    ensures { core.new.state.project ≡ W.project work.now }
 {
     match core.claim() {
         Ok(claim) => {
@@ -60,10 +60,10 @@ fn step<W: StageWork>(
 
 /// Claims a task that has to be there.
 fn claimed(rt: &impl Abort, core: &mut Core<SampleOut>) -> Claim<SampleOut>
-    ensures project { result.project ≡ core.old.project }
-    ensures same { core.new.project ≡ core.old.project }
-    ensures begins { Begins result.log core.new.log }
-    ensures extends { (earlier : List (Entry SampleOut)) → Begins earlier core.old.log → Begins earlier core.new.log }
+    ensures project { result.project ≡ core.old.state.project }
+    ensures same { core.new.state.project ≡ core.old.state.project }
+    ensures begins { Begins result.log core.new.state.log }
+    ensures extends { (earlier : List (Entry SampleOut)) → Begins earlier core.old.state.log → Begins earlier core.new.state.log }
 {
     match core.claim() {
         Ok(claim) => claim,
@@ -100,8 +100,8 @@ fn three_tasks_ready(rt: HostRuntime) -> Result<(), Fail> {
 
 /// Why there is no task.
 fn no_claim(core: &mut Core<SampleOut>) -> Option<NoClaim>
-    ensures same { core.new.project ≡ core.old.project }
-    ensures extends { (earlier : List (Entry SampleOut)) → Begins earlier core.old.log → Begins earlier core.new.log }
+    ensures same { core.new.state.project ≡ core.old.state.project }
+    ensures extends { (earlier : List (Entry SampleOut)) → Begins earlier core.old.state.log → Begins earlier core.new.state.log }
 {
     match core.claim() {
         Ok(claim) => {
@@ -159,8 +159,8 @@ fn given_back_is_ready(rt: HostRuntime) -> Result<(), Fail> {
 
 /// Does tasks until none is ready, and answers how many there were.
 fn run<W: StageWork>(alloc: Global, work: &W, core: &mut Core<W::Out>) -> Result<u32, AllocError>
-    requires { core.old.project ≡ W.project work.now }
-    ensures { core.new.project ≡ W.project work.now }
+    requires { core.old.state.project ≡ W.project work.now }
+    ensures { core.new.state.project ≡ W.project work.now }
 {
     for tasks in 0..20 {
         if step(alloc, work, core)?.is_none() {
@@ -196,9 +196,9 @@ fn goes_on(
     core: &mut Core<SampleOut>,
     status: RefStatus,
 ) -> Result<(), Fail>
-    requires project { core.old.project ≡ work.now.project }
+    requires project { core.old.state.project ≡ work.now.project }
     requires tangled { IsTrue work.now.project.tangled }
-    ensures { core.new.project ≡ work.now.project }
+    ensures { core.new.state.project ≡ work.now.project }
 {
     assert_eq!(rt; core.status(3), status);
     match core.answer(alloc, 3) {

@@ -5,6 +5,7 @@ use Rattle.variant_values.specs.declared.values.Value.{Value}
 use Rattle.variant_values.specs.Operators.{longest}
 use Rattle.string_calls.specs.declared.formats.Draft.{Draft}
 use Rattle.string_calls.specs.Drafts.{Stands, Grows, Fills}
+use Rattle.string_calls.specs.Passes.{at_directive, formatted_after}
 use Rattle.std.specs.List.{starts_with}
 use Rattle.std.proofs.lemmas.Bool.{eq-eqb}
 use borrow.Author.Tests.{eqb-true}
@@ -13,7 +14,7 @@ use Rattle.variant_values.specs.ValueTexts.{Names, text_in, items_in, is_within,
 use Rattle.variant_values.specs.declared.faults.RunFault.TheVariants.{TooDeep, TooLong}
 use Rattle.variant_values.specs.StringMethods.{first_place, first_split}
 use Rattle.string_calls.proofs.Places.{bool_cases, place_or_none, starts-yes, cut}
-use Rattle.variant_values.specs.Formats.{Directive, Formatted, followed, formatted_after, formatted_value, starts_percent, directive_at, at_directive, plain, padded_text, character_in, number_in, format_result}
+use Rattle.variant_values.specs.Formats.{Directive, Formatted, followed, formatted_value, starts_percent, directive_at, plain, padded_text, character_in, number_in, format_result}
 
 and_assoc : (a b c : Bool) → (a && b) && c ≡ a && (b && c)
 and_assoc true b c = refl

@@ -14,7 +14,7 @@ use Rattle.variant_values.specs.declared.faults.Trouble.{Trouble}
 use Rattle.variant_values.specs.declared.string_methods.StrMethod.{StrMethod}
 use Rattle.variant_values.specs.declared.string_methods.StrMethod.TheVariants.{Length, IsEmpty, Substr, Left, Right, Find, Contains, BeginsWith, EndsWith, Replace, Split, Join, Repeat, ToUpper, ToLower, StripEdges, IsValidInt, ToInt, UnicodeAt}
 use Rattle.variant_values.specs.Operators.{Outcome}
-use Rattle.variant_values.specs.StringMethods.{with_given, string_result, int_result, code_point, string_value, one_given, two_given, one_or_two_given, string_in, int_in, count_in, span_in, array_in, join_value, parts, split_array, split_call, string_call_of}
+use Rattle.variant_values.specs.StringMethods.{with_given, string_result, int_result, code_point, one_given, two_given, one_or_two_given, string_in, int_in, count_in, span_in, array_in, join_value, parts, split_array, split_call, string_call_of}
 use Rattle.variant_values.specs.Changes.{Given, HasGiven, looked, new_array}
 use Rattle.string_calls.specs.Plain.{is_plain}
 
@@ -78,27 +78,6 @@ plain_code : (o : Option ℕ) → IsPlain (code_point o)
 plain_code None = plain_fault BadIndex
 plain_code (Some c) = plain_value (Int (pos c)) refl
 
-plain_method : (method : StrMethod) (text : List ℕ) (args : List Value) → IsPlain (string_value method text args)
-plain_method Length text args = plain_if _ _ _ (plain_value _ refl) (plain_fault _)
-plain_method IsEmpty text args = plain_if _ _ _ (plain_value _ refl) (plain_fault _)
-plain_method Substr text args = plain_given (one_or_two_given count_in span_in None args) _ (λ a. plain_string _)
-plain_method Left text args = plain_given (one_given count_in args) _ (λ n. plain_string _)
-plain_method Right text args = plain_given (one_given count_in args) _ (λ n. plain_string _)
-plain_method Find text args = plain_given (one_or_two_given string_in count_in 0 args) _ (λ a. plain_value _ refl)
-plain_method Contains text args = plain_given (one_given string_in args) _ (λ what. plain_value _ refl)
-plain_method BeginsWith text args = plain_given (one_given string_in args) _ (λ what. plain_value _ refl)
-plain_method EndsWith text args = plain_given (one_given string_in args) _ (λ what. plain_value _ refl)
-plain_method Replace text args = plain_given (two_given string_in string_in args) _ (λ a. plain_if _ _ _ (plain_fault _) (plain_string _))
-plain_method Repeat text args = plain_given (one_given count_in args) _ (λ n. plain_string _)
-plain_method ToUpper text args = plain_if _ _ _ (plain_string _) (plain_fault _)
-plain_method ToLower text args = plain_if _ _ _ (plain_string _) (plain_fault _)
-plain_method StripEdges text args = plain_if _ _ _ (plain_string _) (plain_fault _)
-plain_method IsValidInt text args = plain_if _ _ _ (plain_value _ refl) (plain_fault _)
-plain_method ToInt text args = plain_if _ _ _ (plain_int _) (plain_fault _)
-plain_method UnicodeAt text args = plain_given (one_given int_in args) _ (λ i. plain_code _)
-plain_method Split text args = plain_fault _
-plain_method Join text args = plain_fault _
-
 plain_join : (cells : List (Option Cell)) (text : List ℕ) (args : List Value) → IsPlain (join_value cells text args)
 plain_join cells text args = plain_given (one_given array_in args) _ (λ s. plain_if _ _ _ (plain_string _) (plain_fault _))
 
@@ -144,23 +123,23 @@ known_split h text args = known_given (one_given string_in args) _ (λ by. known
 known_call : (h : Heap) (method : StrMethod) (text : List ℕ) (args : List Value) → IsKnown (string_call_of h method text args)
 known_call h Split text args = known_split h text args
 known_call h Join text args = known_kept h _ (plain_join h.cells text args)
-known_call h Length text args = known_kept h _ (plain_method Length text args)
-known_call h IsEmpty text args = known_kept h _ (plain_method IsEmpty text args)
-known_call h Substr text args = known_kept h _ (plain_method Substr text args)
-known_call h Left text args = known_kept h _ (plain_method Left text args)
-known_call h Right text args = known_kept h _ (plain_method Right text args)
-known_call h Find text args = known_kept h _ (plain_method Find text args)
-known_call h Contains text args = known_kept h _ (plain_method Contains text args)
-known_call h BeginsWith text args = known_kept h _ (plain_method BeginsWith text args)
-known_call h EndsWith text args = known_kept h _ (plain_method EndsWith text args)
-known_call h Replace text args = known_kept h _ (plain_method Replace text args)
-known_call h Repeat text args = known_kept h _ (plain_method Repeat text args)
-known_call h ToUpper text args = known_kept h _ (plain_method ToUpper text args)
-known_call h ToLower text args = known_kept h _ (plain_method ToLower text args)
-known_call h StripEdges text args = known_kept h _ (plain_method StripEdges text args)
-known_call h IsValidInt text args = known_kept h _ (plain_method IsValidInt text args)
-known_call h ToInt text args = known_kept h _ (plain_method ToInt text args)
-known_call h UnicodeAt text args = known_kept h _ (plain_method UnicodeAt text args)
+known_call h Length text args = known_kept h _ (plain_if _ _ _ (plain_value _ refl) (plain_fault _))
+known_call h IsEmpty text args = known_kept h _ (plain_if _ _ _ (plain_value _ refl) (plain_fault _))
+known_call h Substr text args = known_kept h _ (plain_given (one_or_two_given count_in span_in None args) _ (λ a. plain_string _))
+known_call h Left text args = known_kept h _ (plain_given (one_given count_in args) _ (λ n. plain_string _))
+known_call h Right text args = known_kept h _ (plain_given (one_given count_in args) _ (λ n. plain_string _))
+known_call h Find text args = known_kept h _ (plain_given (one_or_two_given string_in count_in 0 args) _ (λ a. plain_value _ refl))
+known_call h Contains text args = known_kept h _ (plain_given (one_given string_in args) _ (λ what. plain_value _ refl))
+known_call h BeginsWith text args = known_kept h _ (plain_given (one_given string_in args) _ (λ what. plain_value _ refl))
+known_call h EndsWith text args = known_kept h _ (plain_given (one_given string_in args) _ (λ what. plain_value _ refl))
+known_call h Replace text args = known_kept h _ (plain_given (two_given string_in string_in args) _ (λ a. plain_if _ _ _ (plain_fault _) (plain_string _)))
+known_call h Repeat text args = known_kept h _ (plain_given (one_given count_in args) _ (λ n. plain_string _))
+known_call h ToUpper text args = known_kept h _ (plain_if _ _ _ (plain_string _) (plain_fault _))
+known_call h ToLower text args = known_kept h _ (plain_if _ _ _ (plain_string _) (plain_fault _))
+known_call h StripEdges text args = known_kept h _ (plain_if _ _ _ (plain_string _) (plain_fault _))
+known_call h IsValidInt text args = known_kept h _ (plain_if _ _ _ (plain_value _ refl) (plain_fault _))
+known_call h ToInt text args = known_kept h _ (plain_if _ _ _ (plain_int _) (plain_fault _))
+known_call h UnicodeAt text args = known_kept h _ (plain_given (one_given int_in args) _ (λ i. plain_code _))
 
 pub known_answer : (old new : Heap) (method : StrMethod) (text : List ℕ) (args : List Value) (r : Result Value Trouble) → HasGiven r old new (string_call_of old method text args) → IfOk r (λ v. knows new.cells v ≡ true)
 unfolding IsKnown

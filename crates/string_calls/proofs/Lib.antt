@@ -7,4 +7,6 @@ pub mod Numerals
 pub mod Parting
 pub mod Known
 pub mod Drafting
+pub mod PatternPieces
+pub mod Operator
 mod Needles

@@ -4,7 +4,8 @@ use Rattle.variant_values.specs.Operators.{longest}
 use Rattle.string_calls.specs.declared.formats.Draft.{Draft}
 use Rattle.string_calls.specs.declared.formats.Taken.{Taken}
 use Rattle.variant_values.specs.declared.values.Value.{Value}
-use Rattle.variant_values.specs.Formats.{Directive, Formatted, followed, formatted_after}
+use Rattle.variant_values.specs.Formats.{Directive, Formatted, followed}
+use Rattle.string_calls.specs.Passes.{formatted_after}
 
 -- The draft stands for a text, and for whether all walks so far stay within the limits.
 pub record Stands (d : Draft) (within : Bool) (front : List ℕ) : Type 0 where

@@ -1,4 +1,5 @@
 pub mod Laws
+pub mod Passes
 pub mod Directives
 pub mod Drafts
 pub mod Plain

@@ -1,9 +1,8 @@
 // Calls of the methods of strings.
 ghost use Rattle.std.specs.Prelude.{◌≡◌, true, IfOk};
 ghost use Rattle.variant_values.specs.Heaps.{knows, KnowsAll};
-ghost use Rattle.variant_values.specs.Operators.{Answers};
 ghost use Rattle.variant_values.specs.Changes.{HasGiven, Keeps};
-ghost use Rattle.variant_values.specs.StringMethods.{split_call, string_value, string_call_of};
+ghost use Rattle.variant_values.specs.StringMethods.{split_call, string_call_of};
 
 use crate::joins::{join, parts, replace};
 use crate::methods;
@@ -18,8 +17,8 @@ use variant_values::texts::Str;
 use variant_values::values::Value;
 
 fn split(alloc: Global, heap: &mut Heap, of: &Str, args: &[Value]) -> Result<Value, Trouble>
-    ensures given { HasGiven result heap.old heap.new (split_call heap.old of.now args.now) }
-    ensures keeps { Keeps heap.old.cells heap.new.cells }
+    ensures given { HasGiven result heap.old.state heap.new.state (split_call heap.old.state of.now args.now) }
+    ensures keeps { Keeps heap.old.state.cells heap.new.state.cells }
 {
     let Some(by) = one_string(args) else {
         return Err(BAD_ARGS);
@@ -31,14 +30,16 @@ fn split(alloc: Global, heap: &mut Heap, of: &Str, args: &[Value]) -> Result<Val
     new_array(heap, items.items, None)
 }
 
-/// Those that look at strings and numbers alone.
-fn string_value(
+fn answer(
     alloc: Global,
+    heap: &mut Heap,
     method: StrMethod,
     of: &Str,
     args: &[Value],
 ) -> Result<Value, Trouble>
-    ensures { Answers result (string_value method of.now args.now) }
+    requires { KnowsAll heap.old.state.cells args.now }
+    ensures given { HasGiven result heap.old.state heap.new.state (string_call_of heap.old.state method of.now args.now) }
+    ensures keeps { Keeps heap.old.state.cells heap.new.state.cells }
 {
     match method {
         StrMethod::Length => methods::length(of, args),
@@ -51,6 +52,8 @@ fn string_value(
         StrMethod::BeginsWith => methods::begins(of, args),
         StrMethod::EndsWith => methods::ends(of, args),
         StrMethod::Replace => replace(alloc, of, args),
+        StrMethod::Split => split(alloc, heap, of, args),
+        StrMethod::Join => join(alloc, heap, of, args),
         StrMethod::Repeat => methods::repeat(alloc, of, args),
         StrMethod::ToUpper => methods::to_upper(alloc, of, args),
         StrMethod::ToLower => methods::to_lower(alloc, of, args),
@@ -58,26 +61,6 @@ fn string_value(
         StrMethod::IsValidInt => methods::is_valid_int(of, args),
         StrMethod::ToInt => methods::to_int(of, args),
         StrMethod::UnicodeAt => methods::unicode_at(of, args),
-        // These two look at arrays, and are called elsewhere.
-        StrMethod::Split | StrMethod::Join => Err(BAD_ARGS),
-    }
-}
-
-fn answer(
-    alloc: Global,
-    heap: &mut Heap,
-    method: StrMethod,
-    of: &Str,
-    args: &[Value],
-) -> Result<Value, Trouble>
-    requires { KnowsAll heap.old.cells args.now }
-    ensures given { HasGiven result heap.old heap.new (string_call_of heap.old method of.now args.now) }
-    ensures keeps { Keeps heap.old.cells heap.new.cells }
-{
-    match method {
-        StrMethod::Split => split(alloc, heap, of, args),
-        StrMethod::Join => join(alloc, heap, of, args),
-        _ => string_value(alloc, method, of, args),
     }
 }
 
@@ -93,10 +76,10 @@ pub fn string_call(
     of: &Str,
     args: &[Value],
 ) -> Result<Value, Trouble>
-    requires { KnowsAll heap.old.cells args.now }
-    ensures given { HasGiven result heap.old heap.new (string_call_of heap.old method of.now args.now) }
-    ensures keeps { Keeps heap.old.cells heap.new.cells }
-    ensures known { IfOk result (λ v. knows heap.new.cells v ≡ true) }
+    requires { KnowsAll heap.old.state.cells args.now }
+    ensures given { HasGiven result heap.old.state heap.new.state (string_call_of heap.old.state method of.now args.now) }
+    ensures keeps { Keeps heap.old.state.cells heap.new.state.cells }
+    ensures known { IfOk result (λ v. knows heap.new.state.cells v ≡ true) }
 {
     answer(alloc, heap, method, of, args)
 }

@@ -4,8 +4,12 @@ ghost use Rattle.variant_values.specs.ValueTexts.{is_within, items_in, most_leve
 ghost use Rattle.variant_values.specs.Heaps.{knows, KnowsAll};
 ghost use Rattle.variant_values.specs.Operators.{Answers};
 ghost use Rattle.string_calls.specs.Directives.{directive_of};
+ghost use Rattle.variant_values.specs.declared.operators.BinaryOp.TheVariants.{Rem};
+ghost use Rattle.variant_values.specs.Changes.{HasGiven};
+ghost use Rattle.variant_values.specs.Operations.{operated, text_answer};
 ghost use Rattle.string_calls.specs.Drafts.{Grows, Fills, Takes};
-ghost use Rattle.variant_values.specs.Formats.{character_in, coded, format_result, format_value, formatted_after, formatted_value, number_in, number_text, padded_text, plain};
+ghost use Rattle.variant_values.specs.Formats.{character_in, coded, filled_where, format_result, format_value, formatted_value, number_in, number_text, padded_text, pieces, plain};
+ghost use Rattle.string_calls.specs.Passes.{formatted_after};
 
 use crate::builders::StringBuilder;
 use crate::directives::{Conversion, Directive, directive_at};
@@ -81,8 +85,8 @@ impl Draft {
         v: &Value,
         names: &ClassNames,
     ) -> Result<(), AllocError>
-        requires { knows heap.now.cells v.now ≡ true }
-        ensures { IfOk result (λ _. Grows self.old self.new (is_within (items_in most_levels heap.now.cells v.now)) (padded_text (directive_of d.now) (text_in most_levels heap.now.cells names.now v.now))) }
+        requires { knows heap.now.state.cells v.now ≡ true }
+        ensures { IfOk result (λ _. Grows self.old self.new (is_within (items_in most_levels heap.now.state.cells v.now)) (padded_text (directive_of d.now) (text_in most_levels heap.now.state.cells names.now v.now))) }
     {
         if self.is_deep {
             return Ok(());
@@ -153,8 +157,8 @@ impl Draft {
         v: &Value,
         names: &ClassNames,
     ) -> Result<bool, AllocError>
-        requires { knows heap.now.cells v.now ≡ true }
-        ensures { IfOk result (λ ok. Fills self.old self.new ok (formatted_value heap.now.cells names.now (directive_of d.now) v.now)) }
+        requires { knows heap.now.state.cells v.now ≡ true }
+        ensures { IfOk result (λ ok. Fills self.old self.new ok (formatted_value heap.now.state.cells names.now (directive_of d.now) v.now)) }
     {
         match d.conversion {
             Conversion::Text => {
@@ -176,8 +180,8 @@ impl Draft {
         left: &[Value],
         names: &ClassNames,
     ) -> Result<Option<Taken>, AllocError>
-        requires { KnowsAll heap.now.cells left.now }
-        ensures step { IfOk result (λ taken. Takes self.old self.new (formatted_value heap.now.cells names.now) taken after.now left.now) }
+        requires { KnowsAll heap.now.state.cells left.now }
+        ensures step { IfOk result (λ taken. Takes self.old self.new (formatted_value heap.now.state.cells names.now) taken after.now left.now) }
         ensures bounds { IfOk result (λ taken. IfSome taken (λ t. IsCharBoundary after.now t.bytes × (t.values ≤ length left.now))) }
     {
         if begins_with(after, "%") {
@@ -211,8 +215,8 @@ impl Draft {
         values: &[Value],
         names: &ClassNames,
     ) -> Result<bool, AllocError>
-        requires { KnowsAll heap.now.cells values.now }
-        ensures { IfOk result (λ ok. Fills self.old self.new ok (formatted_after (formatted_value heap.now.cells names.now) 0 pattern.now values.now)) }
+        requires { KnowsAll heap.now.state.cells values.now }
+        ensures { IfOk result (λ ok. Fills self.old self.new ok (formatted_after (formatted_value heap.now.state.cells names.now) 0 pattern.now values.now)) }
     {
         let mut rest = pattern;
         let mut left = values;
@@ -285,8 +289,8 @@ fn format_values(
     values: &[Value],
     names: &ClassNames,
 ) -> Result<Str, Trouble>
-    requires { KnowsAll heap.now.cells values.now }
-    ensures { Answers result (format_result (formatted_after (formatted_value heap.now.cells names.now) 0 pattern.now values.now)) }
+    requires { KnowsAll heap.now.state.cells values.now }
+    ensures { Answers result (format_result (filled_where (formatted_value heap.now.state.cells names.now) (pieces pattern.now) values.now)) }
 {
     let mut draft = Draft {
         out: StringBuilder::new(alloc),
@@ -305,8 +309,25 @@ fn format_values(
     Ok(draft.out.finish()?)
 }
 
+fn formatted(
+    alloc: Global,
+    heap: &Heap,
+    pattern: &Str,
+    arg: &Value,
+    names: &ClassNames,
+) -> Result<Str, Trouble>
+    requires { knows heap.now.state.cells arg.now ≡ true }
+    ensures { Answers result (format_value heap.now.state.cells names.now pattern.now arg.now) }
+{
+    match arg {
+        Value::Array(s) => format_values(alloc, heap, pattern, items(heap, *s), names),
+        _ => format_values(alloc, heap, pattern, slice::from_ref(arg), names),
+    }
+}
+
 /// A pattern with the values of an array, or with one value, in the places of its directives. `BadFormat` for a breach of
-/// the pattern's form, a value of another kind, and too few or too many values; then `TooDeep` and `TooLong` as for texts.
+/// the pattern's form, a value of another kind, and too few or too many values; then `TooDeep` and `TooLong` as for texts. It
+/// is the operator `%` on a text (`operator`).
 pub fn format_text(
     alloc: Global,
     heap: &Heap,
@@ -314,11 +335,9 @@ pub fn format_text(
     arg: &Value,
     names: &ClassNames,
 ) -> Result<Str, Trouble>
-    requires { knows heap.now.cells arg.now ≡ true }
-    ensures { Answers result (format_value heap.now.cells names.now pattern.now arg.now) }
+    requires { knows heap.now.state.cells arg.now ≡ true }
+    ensures value { Answers result (format_value heap.now.state.cells names.now pattern.now arg.now) }
+    ensures operator { HasGiven (text_answer result) heap.now.state heap.now.state (operated names.now heap.now.state Rem (Value.Str pattern.now) arg.now) }
 {
-    match arg {
-        Value::Array(s) => format_values(alloc, heap, pattern, items(heap, *s), names),
-        _ => format_values(alloc, heap, pattern, slice::from_ref(arg), names),
-    }
+    formatted(alloc, heap, pattern, arg, names)
 }

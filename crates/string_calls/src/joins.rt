@@ -3,9 +3,8 @@ ghost use Rattle.std.specs.Prelude.{◌≡◌, ◌<◌, ◌∷◌, length};
 ghost use Rattle.std.specs.List.{join_by, list_all};
 ghost use Rattle.variant_values.specs.Heaps.{KnowsAll};
 ghost use Rattle.variant_values.specs.Operators.{Answers, is_text};
-ghost use Rattle.variant_values.specs.StringMethods.{join_items, join_value, made, parts, plain_text, replaced, string_value};
+ghost use Rattle.variant_values.specs.StringMethods.{join_items, join_value, made, parts, plain_text, replace_value, replaced};
 ghost use Rattle.string_calls.specs.Writes.{Writes, FindsParts, PushesPart};
-ghost use Rattle.variant_values.specs.declared.string_methods.StrMethod.TheVariants.{Replace};
 
 use crate::builders::StringBuilder;
 use crate::methods::BAD_ARGS;
@@ -78,8 +77,8 @@ fn join_items(alloc: Global, separator: &str, items: &[Value]) -> Result<Value, 
 
 /// The strings of an array, with this one between them.
 pub fn join(alloc: Global, heap: &Heap, of: &Str, args: &[Value]) -> Result<Value, Trouble>
-    requires { KnowsAll heap.now.cells args.now }
-    ensures { Answers result (join_value heap.now.cells of.now args.now) }
+    requires { KnowsAll heap.now.state.cells args.now }
+    ensures { Answers result (join_value heap.now.state.cells of.now args.now) }
 {
     match args {
         [Value::Array(s)] => join_items(alloc, of.as_str(), items(heap, *s)),
@@ -114,7 +113,7 @@ fn replaced(alloc: Global, text: &str, what: &str, with: &str) -> Result<Value, 
 }
 
 pub fn replace(alloc: Global, of: &Str, args: &[Value]) -> Result<Value, Trouble>
-    ensures { Answers result (string_value Replace of.now args.now) }
+    ensures { Answers result (replace_value of.now args.now) }
 {
     let Some((what, with)) = two_strings(args) else {
         return Err(BAD_ARGS);

@@ -64,7 +64,7 @@ fn join_stops_at_the_longest_string(rt: HostRuntime) -> Result<(), Fail> {
 
 /// How many items an array has.
 fn items_count(heap: &Heap, v: &Value) -> i64
-    requires { knows heap.now.cells v.now ≡ true }
+    requires { knows heap.now.state.cells v.now ≡ true }
 {
     match array_in(heap, v) {
         Some(s) => items(heap, s).len() as i64,

@@ -2,8 +2,7 @@
 ghost use Rattle.std.specs.Prelude.{◌≡◌, chars};
 ghost use Rattle.std.specs.List.{repeat};
 ghost use Rattle.variant_values.specs.Operators.{Answers};
-ghost use Rattle.variant_values.specs.StringMethods.{string_value, made, spelled, span_at};
-ghost use Rattle.variant_values.specs.declared.string_methods.StrMethod.TheVariants.{Length, IsEmpty, Substr, Left, Right, Find, Contains, BeginsWith, EndsWith, Replace, Repeat, ToUpper, ToLower, StripEdges, IsValidInt, ToInt, UnicodeAt};
+ghost use Rattle.variant_values.specs.StringMethods.{begins_value, code_value, contains_value, edges_value, emptiness_value, ends_value, find_value, int_value, left_value, length_value, lower_value, made, repeat_value, right_value, span_at, spelled, substr_value, upper_value, validity_value};
 
 use crate::edges::{is_whole_number, whole_number, without_back, without_front};
 use crate::searches::{
@@ -31,7 +30,7 @@ fn made(alloc: Global, text: &str) -> Result<Value, Trouble>
 }
 
 pub fn length(of: &Str, args: &[Value]) -> Result<Value, Trouble>
-    ensures { Answers result (string_value Length of.now args.now) }
+    ensures { Answers result (length_value of.now args.now) }
 {
     if !is_none_given(args) {
         return Err(BAD_ARGS);
@@ -40,7 +39,7 @@ pub fn length(of: &Str, args: &[Value]) -> Result<Value, Trouble>
 }
 
 pub fn is_empty(of: &Str, args: &[Value]) -> Result<Value, Trouble>
-    ensures { Answers result (string_value IsEmpty of.now args.now) }
+    ensures { Answers result (emptiness_value of.now args.now) }
 {
     if !is_none_given(args) {
         return Err(BAD_ARGS);
@@ -60,7 +59,7 @@ fn span_at(alloc: Global, text: &str, from: usize, span: Option<usize>) -> Resul
 }
 
 pub fn substr(alloc: Global, of: &Str, args: &[Value]) -> Result<Value, Trouble>
-    ensures { Answers result (string_value Substr of.now args.now) }
+    ensures { Answers result (substr_value of.now args.now) }
 {
     let Some((from, span)) = count_and_span(args) else {
         return Err(BAD_ARGS);
@@ -69,7 +68,7 @@ pub fn substr(alloc: Global, of: &Str, args: &[Value]) -> Result<Value, Trouble>
 }
 
 pub fn left(alloc: Global, of: &Str, args: &[Value]) -> Result<Value, Trouble>
-    ensures { Answers result (string_value Left of.now args.now) }
+    ensures { Answers result (left_value of.now args.now) }
 {
     let Some(n) = one_count(args) else {
         return Err(BAD_ARGS);
@@ -78,7 +77,7 @@ pub fn left(alloc: Global, of: &Str, args: &[Value]) -> Result<Value, Trouble>
 }
 
 pub fn right(alloc: Global, of: &Str, args: &[Value]) -> Result<Value, Trouble>
-    ensures { Answers result (string_value Right of.now args.now) }
+    ensures { Answers result (right_value of.now args.now) }
 {
     let Some(n) = one_count(args) else {
         return Err(BAD_ARGS);
@@ -91,7 +90,7 @@ pub fn right(alloc: Global, of: &Str, args: &[Value]) -> Result<Value, Trouble>
 }
 
 pub fn contains(of: &Str, args: &[Value]) -> Result<Value, Trouble>
-    ensures { Answers result (string_value Contains of.now args.now) }
+    ensures { Answers result (contains_value of.now args.now) }
 {
     let Some(what) = one_string(args) else {
         return Err(BAD_ARGS);
@@ -100,7 +99,7 @@ pub fn contains(of: &Str, args: &[Value]) -> Result<Value, Trouble>
 }
 
 pub fn begins(of: &Str, args: &[Value]) -> Result<Value, Trouble>
-    ensures { Answers result (string_value BeginsWith of.now args.now) }
+    ensures { Answers result (begins_value of.now args.now) }
 {
     let Some(what) = one_string(args) else {
         return Err(BAD_ARGS);
@@ -109,7 +108,7 @@ pub fn begins(of: &Str, args: &[Value]) -> Result<Value, Trouble>
 }
 
 pub fn ends(of: &Str, args: &[Value]) -> Result<Value, Trouble>
-    ensures { Answers result (string_value EndsWith of.now args.now) }
+    ensures { Answers result (ends_value of.now args.now) }
 {
     let Some(what) = one_string(args) else {
         return Err(BAD_ARGS);
@@ -118,7 +117,7 @@ pub fn ends(of: &Str, args: &[Value]) -> Result<Value, Trouble>
 }
 
 pub fn to_upper(alloc: Global, of: &Str, args: &[Value]) -> Result<Value, Trouble>
-    ensures { Answers result (string_value ToUpper of.now args.now) }
+    ensures { Answers result (upper_value of.now args.now) }
 {
     if !is_none_given(args) {
         return Err(BAD_ARGS);
@@ -132,7 +131,7 @@ pub fn to_upper(alloc: Global, of: &Str, args: &[Value]) -> Result<Value, Troubl
 }
 
 pub fn to_lower(alloc: Global, of: &Str, args: &[Value]) -> Result<Value, Trouble>
-    ensures { Answers result (string_value ToLower of.now args.now) }
+    ensures { Answers result (lower_value of.now args.now) }
 {
     if !is_none_given(args) {
         return Err(BAD_ARGS);
@@ -156,7 +155,7 @@ fn repeated(alloc: Global, text: &str, n: usize) -> Result<Value, Trouble>
 }
 
 pub fn repeat(alloc: Global, of: &Str, args: &[Value]) -> Result<Value, Trouble>
-    ensures { Answers result (string_value Repeat of.now args.now) }
+    ensures { Answers result (repeat_value of.now args.now) }
 {
     let Some(n) = one_count(args) else {
         return Err(BAD_ARGS);
@@ -165,7 +164,7 @@ pub fn repeat(alloc: Global, of: &Str, args: &[Value]) -> Result<Value, Trouble>
 }
 
 pub fn find(of: &Str, args: &[Value]) -> Result<Value, Trouble>
-    ensures { Answers result (string_value Find of.now args.now) }
+    ensures { Answers result (find_value of.now args.now) }
 {
     let Some((what, from)) = string_and_count(args) else {
         return Err(BAD_ARGS);
@@ -177,7 +176,7 @@ pub fn find(of: &Str, args: &[Value]) -> Result<Value, Trouble>
 }
 
 pub fn strip_edges(alloc: Global, of: &Str, args: &[Value]) -> Result<Value, Trouble>
-    ensures { Answers result (string_value StripEdges of.now args.now) }
+    ensures { Answers result (edges_value of.now args.now) }
 {
     if !is_none_given(args) {
         return Err(BAD_ARGS);
@@ -186,7 +185,7 @@ pub fn strip_edges(alloc: Global, of: &Str, args: &[Value]) -> Result<Value, Tro
 }
 
 pub fn is_valid_int(of: &Str, args: &[Value]) -> Result<Value, Trouble>
-    ensures { Answers result (string_value IsValidInt of.now args.now) }
+    ensures { Answers result (validity_value of.now args.now) }
 {
     if !is_none_given(args) {
         return Err(BAD_ARGS);
@@ -195,7 +194,7 @@ pub fn is_valid_int(of: &Str, args: &[Value]) -> Result<Value, Trouble>
 }
 
 pub fn to_int(of: &Str, args: &[Value]) -> Result<Value, Trouble>
-    ensures { Answers result (string_value ToInt of.now args.now) }
+    ensures { Answers result (int_value of.now args.now) }
 {
     if !is_none_given(args) {
         return Err(BAD_ARGS);
@@ -207,7 +206,7 @@ pub fn to_int(of: &Str, args: &[Value]) -> Result<Value, Trouble>
 }
 
 pub fn unicode_at(of: &Str, args: &[Value]) -> Result<Value, Trouble>
-    ensures { Answers result (string_value UnicodeAt of.now args.now) }
+    ensures { Answers result (code_value of.now args.now) }
 {
     let Some(index) = one_int(args) else {
         return Err(BAD_ARGS);

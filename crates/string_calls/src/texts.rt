@@ -48,8 +48,8 @@ fn write_object(
     of: Serial,
     names: &ClassNames,
 ) -> Result<(), Trouble>
-    requires { knows_object heap.now.cells of ≡ true }
-    ensures { Writes out.old out.new result (object_text names.now of.0 (cell_at heap.now.cells of.0)) }
+    requires { knows_object heap.now.state.cells of ≡ true }
+    ensures { Writes out.old out.new result (object_text names.now of.0 (cell_at heap.now.state.cells of.0)) }
 {
     match heap.cell(of) {
         Some(Cell::Object(o)) => write_living(out, names, &o.lineage, of.0),
@@ -63,8 +63,8 @@ fn write_key(
     key: &Key,
     names: &ClassNames,
 ) -> Result<(), Trouble>
-    requires { knows_key heap.now.cells key.now ≡ true }
-    ensures { Writes out.old out.new result (key_text heap.now.cells names.now key.now) }
+    requires { knows_key heap.now.state.cells key.now ≡ true }
+    ensures { Writes out.old out.new result (key_text heap.now.state.cells names.now key.now) }
 {
     match key {
         Key::Bool(b) => out.write_truth(*b),
@@ -83,8 +83,8 @@ fn write_value(
     names: &ClassNames,
     levels: u32,
 ) -> Result<(), Trouble>
-    requires { knows heap.now.cells v.now ≡ true }
-    ensures { Writes out.old out.new result (text_in levels heap.now.cells names.now v.now) }
+    requires { knows heap.now.state.cells v.now ≡ true }
+    ensures { Writes out.old out.new result (text_in levels heap.now.state.cells names.now v.now) }
 {
     match v {
         Value::Null => out.write("<null>"),
@@ -114,8 +114,8 @@ fn write_shown(
     names: &ClassNames,
     levels: u32,
 ) -> Result<(), Trouble>
-    requires { knows heap.now.cells v.now ≡ true }
-    ensures { Writes out.old out.new result (front.now ++ shown (text_in levels heap.now.cells names.now) v.now) }
+    requires { knows heap.now.state.cells v.now ≡ true }
+    ensures { Writes out.old out.new result (front.now ++ shown (text_in levels heap.now.state.cells names.now) v.now) }
 {
     out.write(front)?;
     match v {
@@ -132,8 +132,8 @@ fn write_array(
     names: &ClassNames,
     levels: u32,
 ) -> Result<(), Trouble>
-    requires { KnowsAll heap.now.cells items.now }
-    ensures { Writes out.old out.new result (array_text (text_in levels heap.now.cells names.now) items.now) }
+    requires { KnowsAll heap.now.state.cells items.now }
+    ensures { Writes out.old out.new result (array_text (text_in levels heap.now.state.cells names.now) items.now) }
 {
     out.write("[")?;
     if let [first, others @ ..] = items {
@@ -151,9 +151,9 @@ fn write_items(
     names: &ClassNames,
     levels: u32,
 ) -> Result<(), Trouble>
-    requires first { knows heap.now.cells first.now ≡ true }
-    requires others { KnowsAll heap.now.cells others.now }
-    ensures { Writes out.old out.new result (join_by (shown (text_in levels heap.now.cells names.now)) (codes ", ") (first.now ∷ others.now)) }
+    requires first { knows heap.now.state.cells first.now ≡ true }
+    requires others { KnowsAll heap.now.state.cells others.now }
+    ensures { Writes out.old out.new result (join_by (shown (text_in levels heap.now.state.cells names.now)) (codes ", ") (first.now ∷ others.now)) }
 {
     write_shown(out, "", heap, first, names, levels)?;
     for v in others {
@@ -170,8 +170,8 @@ fn write_dict(
     names: &ClassNames,
     levels: u32,
 ) -> Result<(), Trouble>
-    requires { KnowsEntries heap.now.cells entries.now }
-    ensures { Writes out.old out.new result (dict_text heap.now.cells names.now (text_in levels heap.now.cells names.now) entries.now) }
+    requires { KnowsEntries heap.now.state.cells entries.now }
+    ensures { Writes out.old out.new result (dict_text heap.now.state.cells names.now (text_in levels heap.now.state.cells names.now) entries.now) }
 {
     if entries.len() == 0 {
         return out.write("{}");
@@ -189,9 +189,9 @@ fn write_entries(
     names: &ClassNames,
     levels: u32,
 ) -> Result<(), Trouble>
-    requires known { KnowsEntries heap.now.cells entries.now }
+    requires known { KnowsEntries heap.now.state.cells entries.now }
     requires some { 0 < length entries.now }
-    ensures { Writes out.old out.new result (join_by (entry_text heap.now.cells names.now (text_in levels heap.now.cells names.now)) (codes ", ") entries.now) }
+    ensures { Writes out.old out.new result (join_by (entry_text heap.now.state.cells names.now (text_in levels heap.now.state.cells names.now)) (codes ", ") entries.now) }
 {
     let first = entries.entry_at(0);
     write_entry(out, "", heap, first.0, first.1, names, levels)?;
@@ -213,9 +213,9 @@ fn write_entry(
     names: &ClassNames,
     levels: u32,
 ) -> Result<(), Trouble>
-    requires key { knows_key heap.now.cells key.now ≡ true }
-    requires value { knows heap.now.cells v.now ≡ true }
-    ensures { Writes out.old out.new result (front.now ++ entry_text heap.now.cells names.now (text_in levels heap.now.cells names.now) (key.now, v.now)) }
+    requires key { knows_key heap.now.state.cells key.now ≡ true }
+    requires value { knows heap.now.state.cells v.now ≡ true }
+    ensures { Writes out.old out.new result (front.now ++ entry_text heap.now.state.cells names.now (text_in levels heap.now.state.cells names.now) (key.now, v.now)) }
 {
     out.write(front)?;
     write_key(out, heap, key, names)?;
@@ -233,8 +233,8 @@ fn fitting(text: &Str) -> Result<Str, Trouble>
 }
 
 fn built_text(alloc: Global, heap: &Heap, v: &Value, names: &ClassNames) -> Result<Str, Trouble>
-    requires { knows heap.now.cells v.now ≡ true }
-    ensures { Answers result (fitting (text_in most_levels heap.now.cells names.now v.now)) }
+    requires { knows heap.now.state.cells v.now ≡ true }
+    ensures { Answers result (fitting (text_in most_levels heap.now.state.cells names.now v.now)) }
 {
     let mut out = StringBuilder::new(alloc);
     write_value(&mut out, heap, v, names, MOST_LEVELS)?;
@@ -248,8 +248,8 @@ pub fn text_within(
     v: &Value,
     names: &ClassNames,
 ) -> Result<Str, Trouble>
-    requires { knows heap.now.cells v.now ≡ true }
-    ensures { Answers result (fitting (text_in most_levels heap.now.cells names.now v.now)) }
+    requires { knows heap.now.state.cells v.now ≡ true }
+    ensures { Answers result (fitting (text_in most_levels heap.now.state.cells names.now v.now)) }
 {
     match v {
         Value::Str(text) => fitting(text),
@@ -260,8 +260,8 @@ pub fn text_within(
 /// The text of a value, as `str` and `print` show it. `TooDeep` where it would open a container below the 64th level or
 /// comes to more than 1,048,576 items, and else `TooLong` where it has more than 1,048,576 bytes.
 pub fn text_of(alloc: Global, heap: &Heap, v: &Value, names: &ClassNames) -> Result<Str, Trouble>
-    requires { knows heap.now.cells v.now ≡ true }
-    ensures { Answers result (value_text heap.now.cells names.now v.now) }
+    requires { knows heap.now.state.cells v.now ≡ true }
+    ensures { Answers result (value_text heap.now.state.cells names.now v.now) }
 {
     if !is_within(heap, v) {
         return Err(Trouble::Fault(RunFault::TooDeep));

@@ -18,7 +18,7 @@ use variant_values::weights::is_counted;
 pub struct World {
     pub heap: Heap,
     pub next: u64,
-    ghost counted: { length heap.cells ≡ next },
+    ghost counted: { length heap.state.cells ≡ next },
 }
 
 impl World {
@@ -32,7 +32,7 @@ impl World {
     }
 
     fn is_array(&self, s: Serial) -> bool
-        ensures { result ≡ true → is_array (cell_at self.now.heap.cells s.0) ≡ true }
+        ensures { result ≡ true → is_array (cell_at self.now.heap.state.cells s.0) ≡ true }
     {
         if s.0 == 0 || s.0 >= self.next {
             return false;
@@ -41,7 +41,7 @@ impl World {
     }
 
     fn is_dict(&self, s: Serial) -> bool
-        ensures { result ≡ true → is_dict (cell_at self.now.heap.cells s.0) ≡ true }
+        ensures { result ≡ true → is_dict (cell_at self.now.heap.state.cells s.0) ≡ true }
     {
         if s.0 == 0 || s.0 >= self.next {
             return false;
@@ -50,7 +50,7 @@ impl World {
     }
 
     pub fn knows_object(&self, s: Serial) -> bool
-        ensures { result ≡ true → knows_object self.now.heap.cells s ≡ true }
+        ensures { result ≡ true → knows_object self.now.heap.state.cells s ≡ true }
     {
         if s.0 == 0 || s.0 >= self.next {
             return false;
@@ -63,7 +63,7 @@ impl World {
 
     /// Whether the arrays and dictionaries that a value names live, and the objects live or have gone.
     pub fn knows(&self, v: &Value) -> bool
-        ensures { result ≡ true → knows self.now.heap.cells v.now ≡ true }
+        ensures { result ≡ true → knows self.now.heap.state.cells v.now ≡ true }
     {
         match v {
             Value::Null => true,
@@ -83,7 +83,7 @@ impl World {
 
     /// Whether that is so of all.
     pub fn knows_all(&self, values: &[Value]) -> bool
-        ensures { result ≡ true → KnowsAll self.now.heap.cells values.now }
+        ensures { result ≡ true → KnowsAll self.now.heap.state.cells values.now }
     {
         for v in values {
             if !self.knows(v) {
@@ -94,7 +94,7 @@ impl World {
     }
 
     fn knows_key(&self, key: &Key) -> bool
-        ensures { result ≡ true → knows_key self.now.heap.cells key.now ≡ true }
+        ensures { result ≡ true → knows_key self.now.heap.state.cells key.now ≡ true }
     {
         match key {
             Key::Bool(_) => true,
@@ -179,7 +179,7 @@ impl World {
     }
 
     fn is_uncounted(&self, of: Serial) -> bool
-        ensures { result ≡ true → is_counted (cell_at self.now.heap.cells of.0) ≡ false }
+        ensures { result ≡ true → is_counted (cell_at self.now.heap.state.cells of.0) ≡ false }
     {
         if of.0 == 0 || of.0 >= self.next {
             return false;

@@ -16,6 +16,14 @@ pub enum Hold<E> {
     Raised(LinkedList<E>),
 }
 
+/// What a pass knows of its last turn: what the turn found, the log that the pass has seen, and the state that it left.
+pub struct LastTurn<E, S> {
+    pub found_log: Option<LinkedList<E>>,
+    pub found_state: Option<S>,
+    pub seen: LinkedList<E>,
+    pub left: Option<S>,
+}
+
 /// What a pass knows. Contracts alone speak of it: no such value is made.
 pub struct View<P, E, S> {
     /// The lock's project, unless another pass took this one in.
@@ -27,6 +35,13 @@ pub struct View<P, E, S> {
     pub hold: Hold<E>,
     /// The state that its last turn left.
     pub left: Option<S>,
+    /// The log and the state that its last turn found.
+    pub found_log: Option<LinkedList<E>>,
+    pub found_state: Option<S>,
+    /// The turns that it took.
+    pub turns: u64,
+    /// What it knew before each of them.
+    pub earlier: LinkedList<LastTurn<E, S>>,
     /// Its takes that found the turn held.
     pub lost: u64,
     pub splits: u64,
@@ -41,7 +56,7 @@ impl<T: Told> TableRule<Option<T>, View<T::Project, T::Entry, T::State>, Snapsho
     for LockRule<T> {
     ghost use Rattle.turn_lock.specs.Rule.{MeetsRule, first_view};
 
-    ghost holds = { λ key. MeetsRule T.project T.log (T.project key.value) };
+    ghost holds = { λ key. MeetsRule T.project T.log key.value };
 
     ghost first = { λ key. first_view (T.project key.value) (T.log key.value) (T.state key.value) };
 }
@@ -54,7 +69,7 @@ pub struct Take<T> {
 impl<T: Told> Play<Option<T>, View<T::Project, T::Entry, T::State>> for Take<T> {
     ghost use Rattle.turn_lock.specs.Rule.{Takes};
 
-    ghost then = { Takes T.project T.log };
+    ghost then = { Takes T.project T.log T.state };
 }
 
 /// Word 1 becomes the length of the log in the slot.

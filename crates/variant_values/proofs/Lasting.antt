@@ -19,19 +19,19 @@ held_stays cells held w some (goes x counted unheld places) = absurd (omega (ari
 pub named_stays : (cells : List (Option Cell)) (held : List ℕ) (x y : ℕ) → 0 < in_slot x (cell_at cells y) → (Goes cells held y → ⊥) → Goes cells held x → ⊥
 named_stays cells held w y some stays (goes x counted unheld places) = stays (places y some)
 
-cut_array : (p : ℕ → Bool) (s : Option Cell) → is_array (cut_slot p s) ≡ is_array s
+pub cut_array : (p : ℕ → Bool) (s : Option Cell) → is_array (cut_slot p s) ≡ is_array s
 cut_array p None = refl
 cut_array p (Some (ArrayCell vs of)) = refl
 cut_array p (Some (DictCell es)) = refl
 cut_array p (Some (ObjectCell o)) = refl
 
-cut_dict : (p : ℕ → Bool) (s : Option Cell) → is_dict (cut_slot p s) ≡ is_dict s
+pub cut_dict : (p : ℕ → Bool) (s : Option Cell) → is_dict (cut_slot p s) ≡ is_dict s
 cut_dict p None = refl
 cut_dict p (Some (ArrayCell vs of)) = refl
 cut_dict p (Some (DictCell es)) = refl
 cut_dict p (Some (ObjectCell o)) = refl
 
-cut_single : (p : ℕ → Bool) (s : Option Cell) → is_no_container (cut_slot p s) ≡ is_no_container s
+pub cut_single : (p : ℕ → Bool) (s : Option Cell) → is_no_container (cut_slot p s) ≡ is_no_container s
 cut_single p None = refl
 cut_single p (Some (ArrayCell vs of)) = refl
 cut_single p (Some (DictCell es)) = refl

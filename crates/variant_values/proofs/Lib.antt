@@ -1,10 +1,15 @@
 pub mod KeyLemmas
+pub mod SameKeys
 pub mod Rooms
 pub mod Knowing
 pub mod Sums
+pub mod Removing
 pub mod Sweeping
 pub mod Once
 pub mod Rounds
 pub mod Holds
+pub mod Crossing
 pub mod Lasting
+pub mod Subtrees
 pub mod Freed
+pub mod Frames

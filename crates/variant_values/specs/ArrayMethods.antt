@@ -62,10 +62,10 @@ inserted h x (Some i) v = put_of h x i 0 (v ∷ []) (Int (pos 0))
 abbrev pub insert_of : Heap → ℕ → ℤ → Value → Given
 insert_of h x i v = inserted h x (spot_between i (length (items_at h x))) v
 
--- the array without one item, where there is a place
+-- The array without one item, where there is a place. What takes items out makes no heap heavier, so that it is not refused.
 abbrev pub removed : Heap → ℕ → Option ℕ → Given → Given
 removed h x None other = other
-removed h x (Some i) other = weighed (with_splice h x i 1 []) Null
+removed h x (Some i) other = Ok (Null, with_splice h x i 1 [])
 
 abbrev pub remove_at_of : Heap → ℕ → ℤ → Given
 remove_at_of h x i = removed h x (spot i (length (items_at h x))) (Err BadIndex)
@@ -81,7 +81,7 @@ erase_of h x v = erased h x (first_equal (λ w. same_value h.cells v w) 0 (items
 -- the item of a place, which is taken out; null where there is none
 abbrev pub popped : Heap → ℕ → ℕ → Option Value → Given
 popped h x at None = Ok (Null, h)
-popped h x at (Some v) = weighed (with_splice h x at 1 []) v
+popped h x at (Some v) = Ok (v, with_splice h x at 1 [])
 
 abbrev pub pop_back_of : Heap → ℕ → Given
 pop_back_of h x = popped h x (length (items_at h x) - 1) (slice_get (items_at h x) (length (items_at h x) - 1))
@@ -90,7 +90,7 @@ abbrev pub pop_front_of : Heap → ℕ → Given
 pop_front_of h x = popped h x 0 (slice_get (items_at h x) 0)
 
 abbrev pub clear_of : Heap → ℕ → Given
-clear_of h x = weighed (with_splice h x 0 (length (items_at h x)) []) Null
+clear_of h x = Ok (Null, with_splice h x 0 (length (items_at h x)) [])
 
 abbrev pub reverse_of : Heap → ℕ → Given
 reverse_of h x = weighed (with_splice h x 0 (length (items_at h x)) (reverse (items_at h x))) Null

@@ -131,25 +131,53 @@ followed None b = None
 followed (Some a) None = None
 followed (Some a) (Some b) = Some (a.0 && b.0, a.1 ++ b.1)
 
+-- ---- a pattern is read as pieces
+
+-- a text as it stands there, or a value as a directive shows it
+pub data Piece : Type 0 where
+  Literal : (text : List ℕ) → Piece
+  Shown : (directive : Directive) → Piece
+
+-- a byte before pieces belongs to the text that they begin with
+abbrev pub with_byte : ℕ → List Piece → List Piece
+with_byte b [] = Literal (b ∷ []) ∷ []
+with_byte b (Literal text ∷ ps) = Literal (b ∷ text) ∷ ps
+with_byte b (Shown d ∷ ps) = Literal (b ∷ []) ∷ Shown d ∷ ps
+
 abbrev pub starts_percent : List ℕ → Bool
 starts_percent [] = false
 starts_percent (b ∷ bs) = b == 37
 
--- a directive takes the next value; `rest` is what is left behind so many bytes
-abbrev pub at_directive : (Directive → Value → Formatted) → (ℕ → List Value → Formatted) → Option Directive → List Value → Formatted
-at_directive value rest None args = None
-at_directive value rest (Some d) [] = None
-at_directive value rest (Some d) (v ∷ vs) = followed (value d v) (rest d.size vs)
+-- a directive, and the pieces behind its bytes
+abbrev pub with_shown : Option Directive → (ℕ → Option (List Piece)) → Option (List Piece)
+with_shown None behind = None
+with_shown (Some d) behind = option_map (λ ps. Shown d ∷ ps) (behind d.size)
 
--- The pattern with values in the places of its directives, each value once. The first `skip` bytes are those of a directive
--- and are passed over; `%%` is one `%`.
-abbrev pub formatted_after : (Directive → Value → Formatted) → ℕ → List ℕ → List Value → Formatted
-formatted_after value skip [] [] = Some (true, [])
-formatted_after value skip [] (v ∷ vs) = None
-formatted_after value (suc skip) (b ∷ bs) args = formatted_after value skip bs args
-formatted_after value zero (b ∷ bs) args =
-    if b == 37 then (if starts_percent bs then followed (plain (Some (37 ∷ []))) (formatted_after value 1 bs args) else at_directive value (λ n vs. formatted_after value n bs vs) (directive_at bs) args)
-    else followed (plain (Some (b ∷ []))) (formatted_after value 0 bs args)
+-- The pieces of a pattern, or none where what stands behind a `%` is no directive. The first `skip` bytes are those of a
+-- directive and are passed over; `%%` is one `%`.
+abbrev pub pieces_after : ℕ → List ℕ → Option (List Piece)
+pieces_after skip [] = Some []
+pieces_after (suc skip) (b ∷ bs) = pieces_after skip bs
+pieces_after zero (b ∷ bs) =
+    if b == 37 then (if starts_percent bs then option_map (with_byte 37) (pieces_after 1 bs) else with_shown (directive_at bs) (λ n. pieces_after n bs))
+    else option_map (with_byte b) (pieces_after 0 bs)
+
+abbrev pub pieces : List ℕ → Option (List Piece)
+pieces pattern = pieces_after 0 pattern
+
+-- ---- and the pieces are filled
+
+-- each directive takes the next value, and all values are taken
+abbrev pub filled : (Directive → Value → Formatted) → List Piece → List Value → Formatted
+filled value [] [] = Some (true, [])
+filled value [] (v ∷ vs) = None
+filled value (Literal text ∷ ps) vs = followed (Some (true, text)) (filled value ps vs)
+filled value (Shown d ∷ ps) [] = None
+filled value (Shown d ∷ ps) (v ∷ vs) = followed (value d v) (filled value ps vs)
+
+abbrev pub filled_where : (Directive → Value → Formatted) → Option (List Piece) → List Value → Formatted
+filled_where value None vs = None
+filled_where value (Some ps) vs = filled value ps vs
 
 -- an array has the values, and another value stands alone
 abbrev pub values_of : List (Option Cell) → Value → List Value
@@ -163,4 +191,4 @@ format_result (Some (within, text)) = if within then fitting text else Err TooDe
 -- A pattern with values: `BadFormat` for a breach of its form and for too few or too many values, then `TooDeep` where the
 -- walk of a text passes a limit, and then `TooLong`.
 abbrev pub format_value : List (Option Cell) → Names → List ℕ → Value → Result (List ℕ) RunFault
-format_value cells names pattern arg = format_result (formatted_after (formatted_value cells names) 0 pattern (values_of cells arg))
+format_value cells names pattern arg = format_result (filled_where (formatted_value cells names) (pieces pattern) (values_of cells arg))

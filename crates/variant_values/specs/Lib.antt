@@ -12,7 +12,9 @@ pub mod ValueTexts
 pub mod StringMethods
 pub mod Formats
 pub mod Changes
+pub mod Kept
 pub mod Comparisons
+pub mod Same
 pub mod ElementTypes
 pub mod Operations
 pub mod Indexing

@@ -41,3 +41,7 @@ disconnected h from signal to method = with_cell h from (connections_put (filter
 abbrev pub targets_of : List ℕ → List Connection → List (Serial × List ℕ)
 targets_of signal [] = []
 targets_of signal (c ∷ cs) = cond (same_text c.signal signal) ((c.target, c.method) ∷ targets_of signal cs) (targets_of signal cs)
+
+-- how many of the connections are that of the signal to the method of the object
+abbrev pub times_linked : List ℕ → Serial → List ℕ → List Connection → ℕ
+times_linked signal to method cs = sum_by (λ c. cond (is_connection signal to method c) 1 0) cs

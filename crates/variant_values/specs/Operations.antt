@@ -4,8 +4,9 @@ use Rattle.std.specs.Map.{lookup}
 use Rattle.variant_values.specs.declared.cells.Cell.{Cell}
 use Rattle.variant_values.specs.declared.faults.RunFault.{RunFault}
 use Rattle.variant_values.specs.declared.faults.RunFault.TheVariants.{BadOperands}
+use Rattle.variant_values.specs.declared.faults.Trouble.{Trouble}
 use Rattle.variant_values.specs.declared.operators.BinaryOp.{BinaryOp}
-use Rattle.variant_values.specs.declared.operators.BinaryOp.TheVariants.{Add, Eq, Ne, Within, And, Or}
+use Rattle.variant_values.specs.declared.operators.BinaryOp.TheVariants.{Add, Rem, Eq, Ne, Within, And, Or}
 use Rattle.variant_values.specs.declared.values.Key.{Key}
 use Rattle.variant_values.specs.declared.values.Value.{Value}
 use Rattle.variant_values.specs.declared.values.Value.TheVariants.{Str, Array, Dict}
@@ -15,6 +16,9 @@ use Rattle.variant_values.specs.Operators.{Outcome, binary_of, key_of, truth_of}
 use Rattle.variant_values.specs.Changes.{Given, counted, looked, new_array}
 use Rattle.variant_values.specs.Comparisons.{equality, first_equal, same_value}
 use Rattle.variant_values.specs.ElementTypes.{common, element_of}
+use Rattle.variant_values.specs.Formats.{format_value}
+use Rattle.variant_values.specs.StringMethods.{string_result}
+use Rattle.variant_values.specs.ValueTexts.{Names}
 
 abbrev pub begins : List ℕ → List ℕ → Bool
 begins [] bs = true
@@ -62,12 +66,25 @@ abbrev pub added : Heap → Value → Value → Given
 added h (Array a) (Array b) = arrays_joined h a.0 b.0
 added h v w = looked h (binary_of Add v w)
 
-abbrev pub operated : Heap → BinaryOp → Value → Value → Given
-operated h Within v w = looked h (within h.cells v w)
-operated h Eq v w = looked h (answered (equality h.cells v w))
-operated h Ne v w = looked h (denied (equality h.cells v w))
-operated h Add v w = added h v w
-operated h op v w = looked h (binary_of op v w)
+-- a text before `%` is a pattern, and a number is divided
+abbrev pub remainder : Names → List (Option Cell) → Value → Value → Outcome
+remainder names cells (Str pattern) w = string_result (format_value cells names pattern w)
+remainder names cells v w = binary_of Rem v w
+
+-- the answer of a call that gives a text, as one that gives a value
+abbrev pub text_answer : Result (List ℕ) Trouble → Result Value Trouble
+text_answer (Ok text) = Ok (Str text)
+text_answer (Err trouble) = Err trouble
+
+-- What an operator gives, and the heap after it. `and` and `or` look at their second operand only at times, and are read
+-- elsewhere.
+abbrev pub operated : Names → Heap → BinaryOp → Value → Value → Given
+operated names h Within v w = looked h (within h.cells v w)
+operated names h Eq v w = looked h (answered (equality h.cells v w))
+operated names h Ne v w = looked h (denied (equality h.cells v w))
+operated names h Add v w = added h v w
+operated names h Rem v w = looked h (remainder names h.cells v w)
+operated names h op v w = looked h (binary_of op v w)
 
 -- `and` and `or` are read elsewhere
 abbrev pub is_value_op : BinaryOp → Bool

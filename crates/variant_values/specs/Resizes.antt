@@ -1,5 +1,5 @@
 -- `resize`, after the Godot manual's page of Array.
-use Rattle.std.specs.Prelude.{ℕ, zero, suc, ◌+◌, ◌-◌, ℤ, pos, false, nat_le, if◌then◌else◌, List, [], ◌∷◌, length, replicate, Option, Some, None, Err}
+use Rattle.std.specs.Prelude.{ℕ, zero, suc, ◌+◌, ◌-◌, ℤ, pos, false, nat_le, if◌then◌else◌, List, [], ◌∷◌, length, replicate, Option, Some, None, Ok, Err}
 use Rattle.std.specs.Int.RustNames.{int_lt, unsigned_abs}
 use Rattle.variant_values.specs.declared.cells.Cell.{Cell}
 use Rattle.variant_values.specs.declared.cells.Cell.TheVariants.{Array as ArrayCell, Dict as DictCell}
@@ -10,7 +10,7 @@ use Rattle.variant_values.specs.declared.values.Serial.{Serial}
 use Rattle.variant_values.specs.declared.values.Value.{Value}
 use Rattle.variant_values.specs.declared.values.Value.TheVariants.{Null, Bool as Truth, Int, Str, Array, Dict}
 use Rattle.variant_values.specs.Heaps.{Heap, cell_at, with_new, with_splice}
-use Rattle.variant_values.specs.Changes.{Given, counted, placed, weighed}
+use Rattle.variant_values.specs.Changes.{Given, counted, placed}
 use Rattle.variant_values.specs.ElementTypes.{element_of}
 use Rattle.variant_values.specs.ArrayMethods.{items_at}
 
@@ -41,11 +41,11 @@ defaults h of n = (replicate n (default_of of), h)
 abbrev pub put_last : List Value × Heap → ℕ → Given
 put_last new x = placed (with_splice new.1 x (length (items_at new.1 x)) 0 new.0) (Int (pos 0))
 
--- the array with so many items
+-- the array with so many items; the last ones are taken out, or others put last
 abbrev pub sized : Heap → ℕ → ℕ → Given
 sized h x n =
     let len = length (items_at h x) in
-    if nat_le n len then weighed (with_splice h x n (len - n) []) (Int (pos 0)) else put_last (defaults h (element_of (cell_at h.cells x)) (n - len)) x
+    if nat_le n len then Ok (Int (pos 0), with_splice h x n (len - n) []) else put_last (defaults h (element_of (cell_at h.cells x)) (n - len)) x
 
 abbrev pub resize_of : Heap → ℕ → ℤ → Given
 resize_of h x n = if int_lt n (pos 0) then Err BadArgs else counted (unsigned_abs n) (sized h x (unsigned_abs n))

@@ -185,30 +185,58 @@ nth_char cs (Some n) = slice_get cs n
 abbrev pub char_at : List ℕ → ℤ → Option ℕ
 char_at cs i = nth_char cs (natural i)
 
--- ---- the methods
+-- ---- the methods, each by its arguments
 
--- those that look at strings and numbers alone
-abbrev pub string_value : StrMethod → List ℕ → List Value → Outcome
-string_value Length text args = if is_none_given args then number_of (pos (length (chars text))) else Err BadArgs
-string_value IsEmpty text args = if is_none_given args then truth_of (length text == 0) else Err BadArgs
-string_value Substr text args = with_given (one_or_two_given count_in span_in None args) (λ a. made (spelled (span_at a.0 a.1 (chars text))))
-string_value Left text args = with_given (one_given count_in args) (λ n. made (spelled (take n (chars text))))
-string_value Right text args = with_given (one_given count_in args) (λ n. made (spelled (last_chars n (chars text))))
-string_value Find text args = with_given (one_or_two_given string_in count_in 0 args) (λ a. number_of (place_number (place_from a.0 a.1 text)))
-string_value Contains text args = with_given (one_given string_in args) (λ what. truth_of (is_some (first_place what text)))
-string_value BeginsWith text args = with_given (one_given string_in args) (λ what. truth_of (starts_with nat_eq text what))
-string_value EndsWith text args = with_given (one_given string_in args) (λ what. truth_of (ends_with nat_eq text what))
-string_value Replace text args = with_given (two_given string_in string_in args) (λ a. if length a.0 == 0 then Err BadArgs else made (replaced a.0 a.1 text))
-string_value Repeat text args = with_given (one_given count_in args) (λ n. made (repeat n text))
-string_value ToUpper text args = if is_none_given args then made (map to_ascii_uppercase text) else Err BadArgs
-string_value ToLower text args = if is_none_given args then made (map to_ascii_lowercase text) else Err BadArgs
-string_value StripEdges text args = if is_none_given args then made (without_back (without_front text)) else Err BadArgs
-string_value IsValidInt text args = if is_none_given args then truth_of (is_whole_number text) else Err BadArgs
-string_value ToInt text args = if is_none_given args then int_result (whole_number text) else Err BadArgs
-string_value UnicodeAt text args = with_given (one_given int_in args) (λ i. code_point (char_at (chars text) i))
--- these two look at arrays, and have definitions of their own
-string_value Split text args = Err BadArgs
-string_value Join text args = Err BadArgs
+abbrev pub length_value : List ℕ → List Value → Outcome
+length_value text args = if is_none_given args then number_of (pos (length (chars text))) else Err BadArgs
+
+abbrev pub emptiness_value : List ℕ → List Value → Outcome
+emptiness_value text args = if is_none_given args then truth_of (length text == 0) else Err BadArgs
+
+abbrev pub substr_value : List ℕ → List Value → Outcome
+substr_value text args = with_given (one_or_two_given count_in span_in None args) (λ a. made (spelled (span_at a.0 a.1 (chars text))))
+
+abbrev pub left_value : List ℕ → List Value → Outcome
+left_value text args = with_given (one_given count_in args) (λ n. made (spelled (take n (chars text))))
+
+abbrev pub right_value : List ℕ → List Value → Outcome
+right_value text args = with_given (one_given count_in args) (λ n. made (spelled (last_chars n (chars text))))
+
+abbrev pub find_value : List ℕ → List Value → Outcome
+find_value text args = with_given (one_or_two_given string_in count_in 0 args) (λ a. number_of (place_number (place_from a.0 a.1 text)))
+
+abbrev pub contains_value : List ℕ → List Value → Outcome
+contains_value text args = with_given (one_given string_in args) (λ what. truth_of (is_some (first_place what text)))
+
+abbrev pub begins_value : List ℕ → List Value → Outcome
+begins_value text args = with_given (one_given string_in args) (λ what. truth_of (starts_with nat_eq text what))
+
+abbrev pub ends_value : List ℕ → List Value → Outcome
+ends_value text args = with_given (one_given string_in args) (λ what. truth_of (ends_with nat_eq text what))
+
+abbrev pub replace_value : List ℕ → List Value → Outcome
+replace_value text args = with_given (two_given string_in string_in args) (λ a. if length a.0 == 0 then Err BadArgs else made (replaced a.0 a.1 text))
+
+abbrev pub repeat_value : List ℕ → List Value → Outcome
+repeat_value text args = with_given (one_given count_in args) (λ n. made (repeat n text))
+
+abbrev pub upper_value : List ℕ → List Value → Outcome
+upper_value text args = if is_none_given args then made (map to_ascii_uppercase text) else Err BadArgs
+
+abbrev pub lower_value : List ℕ → List Value → Outcome
+lower_value text args = if is_none_given args then made (map to_ascii_lowercase text) else Err BadArgs
+
+abbrev pub edges_value : List ℕ → List Value → Outcome
+edges_value text args = if is_none_given args then made (without_back (without_front text)) else Err BadArgs
+
+abbrev pub validity_value : List ℕ → List Value → Outcome
+validity_value text args = if is_none_given args then truth_of (is_whole_number text) else Err BadArgs
+
+abbrev pub int_value : List ℕ → List Value → Outcome
+int_value text args = if is_none_given args then int_result (whole_number text) else Err BadArgs
+
+abbrev pub code_value : List ℕ → List Value → Outcome
+code_value text args = with_given (one_given int_in args) (λ i. code_point (char_at (chars text) i))
 
 abbrev pub plain_text : Value → List ℕ
 plain_text (Str text) = text
@@ -228,8 +256,24 @@ split_array h texts = if list_all fits_string texts then counted (length texts) 
 abbrev pub split_call : Heap → List ℕ → List Value → Given
 split_call h text args = with_given (one_given string_in args) (λ by. if length by == 0 then Err BadArgs else split_array h (parts by text))
 
--- what a method gives, and the heap after it
+-- what a method of a string gives, and the heap after it
 abbrev pub string_call_of : Heap → StrMethod → List ℕ → List Value → Given
+string_call_of h Length text args = looked h (length_value text args)
+string_call_of h IsEmpty text args = looked h (emptiness_value text args)
+string_call_of h Substr text args = looked h (substr_value text args)
+string_call_of h Left text args = looked h (left_value text args)
+string_call_of h Right text args = looked h (right_value text args)
+string_call_of h Find text args = looked h (find_value text args)
+string_call_of h Contains text args = looked h (contains_value text args)
+string_call_of h BeginsWith text args = looked h (begins_value text args)
+string_call_of h EndsWith text args = looked h (ends_value text args)
+string_call_of h Replace text args = looked h (replace_value text args)
 string_call_of h Split text args = split_call h text args
 string_call_of h Join text args = looked h (join_value h.cells text args)
-string_call_of h method text args = looked h (string_value method text args)
+string_call_of h Repeat text args = looked h (repeat_value text args)
+string_call_of h ToUpper text args = looked h (upper_value text args)
+string_call_of h ToLower text args = looked h (lower_value text args)
+string_call_of h StripEdges text args = looked h (edges_value text args)
+string_call_of h IsValidInt text args = looked h (validity_value text args)
+string_call_of h ToInt text args = looked h (int_value text args)
+string_call_of h UnicodeAt text args = looked h (code_value text args)

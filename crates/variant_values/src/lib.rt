@@ -14,6 +14,7 @@ mod operator_tests;
 pub mod operators;
 pub mod string_methods;
 pub mod texts;
+pub mod thread_safety;
 pub mod values;
 pub mod weights;
 

@@ -84,11 +84,21 @@ pub enum Expr {
     /// `x is not Type`
     IsNot(Place, Boxed<Expr>, TypeName),
     Prefix(Place, TreePrefix, Boxed<Expr>),
-    Binary(Place, TreeOp, Boxed<Expr>, Boxed<Expr>),
+    Binary {
+        place: Place,
+        op: TreeOp,
+        left: Boxed<Expr>,
+        right: Boxed<Expr>,
+    },
     /// `not x`; `a not in b` is `not` over `a in b`
     Not(Place, Boxed<Expr>),
-    /// `a if c else b`, with the condition `c` second
-    Ternary(Place, Boxed<Expr>, Boxed<Expr>, Boxed<Expr>),
+    /// `value if condition else otherwise`
+    Ternary {
+        place: Place,
+        value: Boxed<Expr>,
+        condition: Boxed<Expr>,
+        otherwise: Boxed<Expr>,
+    },
     /// `x as Type`
     As(Place, Boxed<Expr>, TypeName),
 }

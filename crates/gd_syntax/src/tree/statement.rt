@@ -31,20 +31,48 @@ pub enum Simple {
     Const(Const),
     /// the condition and the message
     Assert(Place, Expr, Option<Expr>),
-    /// the target, the operator and the value
-    Assign(Place, Expr, AssignOp, Expr),
+    Assign {
+        place: Place,
+        target: Expr,
+        op: AssignOp,
+        value: Expr,
+    },
     Expr(Place, Expr),
 }
 
+/// A condition and its block. The place is that of the word `if` or `elif`.
+#[cycle(statement)]
+#[derive(Debug, PartialEq, Drop)]
+pub struct Branch {
+    pub place: Place,
+    pub condition: Expr,
+    pub body: Items<Stmt>,
+}
+
+/// The patterns of a branch of a `match`, the first of which has its place, and its block.
+#[cycle(statement)]
+#[derive(Debug, PartialEq, Drop)]
+pub struct MatchBranch {
+    pub patterns: Items<Pattern>,
+    pub body: Items<Stmt>,
+}
+
 /// A statement. The place is that of its first token. A block is a list of statements.
+#[cycle(statement)]
 #[derive(Debug, PartialEq, Drop)]
 pub enum Stmt {
     /// the simple statements of a line
     Line(Place, Items<Simple>),
-    /// the conditions of `if` and `elif` with their blocks, and the block of `else`
-    If(Place, Items<(Expr, Items<Stmt>)>, Option<Items<Stmt>>),
-    For(Place, Identifier, Option<TypeName>, Expr, Items<Stmt>),
+    /// the branches of `if` and `elif`, and the block of `else`
+    If(Place, Items<Branch>, Option<Items<Stmt>>),
+    For {
+        place: Place,
+        name: Identifier,
+        type_name: Option<TypeName>,
+        subject: Expr,
+        body: Items<Stmt>,
+    },
     While(Place, Expr, Items<Stmt>),
     /// the subject, and the branches
-    Match(Place, Expr, Items<(Items<Pattern>, Items<Stmt>)>),
+    Match(Place, Expr, Items<MatchBranch>),
 }

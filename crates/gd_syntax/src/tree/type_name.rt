@@ -19,11 +19,18 @@ pub struct PathText {
     pub text: Text,
 }
 
+/// The type of an array's elements as it is written: the names between the dots.
+#[derive(Debug, PartialEq, Drop)]
+pub struct ElementName {
+    pub place: Place,
+    pub names: Items<Name>,
+}
+
 /// A type as it is written.
 #[derive(Debug, PartialEq, Drop)]
 pub enum TypeName {
-    /// The names between the dots, and the name of the elements of an array, which no type has yet.
-    Named(Place, Items<Name>, Option<Items<Name>>),
+    /// The names between the dots, and the type of an array's elements, which no type has yet.
+    Named(Place, Items<Name>, Option<ElementName>),
     /// `void`, which stands after `->` alone.
     Void(Place),
 }

@@ -3,7 +3,7 @@ ghost use Rattle.std.specs.Prelude.{◌≡◌, ◌+◌, [], IfOk, Some};
 ghost use mathlib.Core.List.{IsPrefix};
 ghost use Rattle.stage_core.specs.Machine.{start};
 ghost use Rattle.turn_lock.specs.Rule.{longer};
-ghost use Rattle.turn_lock.specs.Passes.{seen_by, left_by, lost_by, splits_of};
+ghost use Rattle.turn_lock.specs.Passes.{KeepsTurns, HasNoTurns, seen_by, left_by, lost_by, splits_of};
 ghost use Rattle.script_cache.specs.Entries.{IsCachePass};
 
 use super::{CachePass, ScriptCache};
@@ -21,6 +21,7 @@ impl<W: StageWork> ScriptCache<W> {
         ensures pass { IfOk result (λ r. IsCachePass r.0.lock r.1) }
         ensures seen { IfOk result (λ r. seen_by r.1 ≡ []) }
         ensures left { IfOk result (λ r. left_by r.1 ≡ Some (start W.Out.StageOut (W.project work)).in_progress) }
+        ensures turns { IfOk result (λ r. HasNoTurns r.1) }
         ensures splits { IfOk result (λ r. splits_of r.1 ≡ 0) }
     {
         let core = Core::new(alloc, work.project(), work.files())?;
@@ -28,18 +29,20 @@ impl<W: StageWork> ScriptCache<W> {
         Ok((ScriptCache { work, lock }, pass))
     }
 
-    /// A pass for another thread, which has seen as much and has left the same tasks under way.
+    /// A pass for another thread, which has seen as much and has left the same tasks under way. It took no turn yet.
     pub fn split_pass(&self, pass: &mut CachePass<W::Out>) -> CachePass<W::Out>
         requires { IsCachePass self.now.lock pass.old }
         ensures pass { IsCachePass self.now.lock pass.new }
         ensures splits { splits_of pass.new ≡ splits_of pass.old + 1 }
         ensures same { (seen_by pass.new ≡ seen_by pass.old)
-            × (left_by pass.new ≡ left_by pass.old) × (lost_by pass.new ≡ lost_by pass.old) }
+            × (left_by pass.new ≡ left_by pass.old) × (lost_by pass.new ≡ lost_by pass.old)
+            × KeepsTurns pass.old pass.new }
         ensures new_pass { IsCachePass self.now.lock result }
         ensures seen { seen_by result ≡ seen_by pass.old }
         ensures left { left_by result ≡ left_by pass.old }
         ensures unsplit { splits_of result ≡ 0 }
         ensures unlost { lost_by result ≡ 0 }
+        ensures turns { HasNoTurns result }
     {
         self.lock.split_pass(pass)
     }
@@ -53,7 +56,8 @@ impl<W: StageWork> ScriptCache<W> {
         ensures begun_by_this { IsPrefix (seen_by pass.old) (seen_by pass.new) }
         ensures begun_by_other { IsPrefix (seen_by other) (seen_by pass.new) }
         ensures same { (left_by pass.new ≡ left_by pass.old)
-            × (splits_of pass.new ≡ splits_of pass.old) × (lost_by pass.new ≡ lost_by pass.old) }
+            × (splits_of pass.new ≡ splits_of pass.old) × (lost_by pass.new ≡ lost_by pass.old)
+            × KeepsTurns pass.old pass.new }
     {
         self.lock.join_pass(pass, other);
     }

@@ -15,13 +15,13 @@ use std::alloc::{AllocError, Global};
 
 /// Claims a task. Without memory for its needs it is given back.
 pub(super) fn claim_job<O: StageOut>(alloc: Global, core: &mut Core<O>) -> Result<Job<O>, NoRaise>
-    ensures project { core.new.project ≡ core.old.project }
-    ensures grows { Begins core.old.log core.new.log }
-    ensures task { IfOk result (λ job. IsReady O.StageOut core.old.log core.old.in_progress job.file job.stage × (core.new ≡ claimed core.old job.file job.stage)) }
-    ensures job { IfOk result (λ job. (job.project ≡ core.old.project) × (job.log ≡ core.new.log)) }
-    ensures all_done { result ≡ Err NoRaise.AllDone → AreAllDone O.StageOut core.old.log × (core.new ≡ core.old) }
-    ensures nothing_ready { result ≡ Err NoRaise.NothingReady → ((file stage : ℕ) → IsReady O.StageOut core.old.log core.old.in_progress file stage → ⊥) × (AreAllDone O.StageOut core.old.log → ⊥) × (core.new ≡ core.old) }
-    ensures no_memory { result ≡ Err NoRaise.NoMemory → ((file : ℕ) × (stage : ℕ) × IsReady O.StageOut core.old.log core.old.in_progress file stage × (core.new ≡ given_back (claimed core.old file stage) file stage)) }
+    ensures project { core.new.state.project ≡ core.old.state.project }
+    ensures grows { Begins core.old.state.log core.new.state.log }
+    ensures task { IfOk result (λ job. IsReady O.StageOut core.old.state.log core.old.state.in_progress job.file job.stage × (core.new.state ≡ claimed core.old.state job.file job.stage)) }
+    ensures job { IfOk result (λ job. (job.project ≡ core.old.state.project) × (job.log ≡ core.new.state.log)) }
+    ensures all_done { result ≡ Err NoRaise.AllDone → AreAllDone O.StageOut core.old.state.log × (core.new.state ≡ core.old.state) }
+    ensures nothing_ready { result ≡ Err NoRaise.NothingReady → ((file stage : ℕ) → IsReady O.StageOut core.old.state.log core.old.state.in_progress file stage → ⊥) × (AreAllDone O.StageOut core.old.state.log → ⊥) × (core.new.state ≡ core.old.state) }
+    ensures no_memory { result ≡ Err NoRaise.NoMemory → ((file : ℕ) × (stage : ℕ) × IsReady O.StageOut core.old.state.log core.old.state.in_progress file stage × (core.new.state ≡ given_back (claimed core.old.state file stage) file stage)) }
 {
     match core.claim() {
         Ok(claim) => match core.needs(alloc, &claim) {

@@ -1,6 +1,7 @@
 //! How a lock begins and ends.
 ghost use Rattle.std.specs.Prelude.{◌≡◌, IfOk, Some};
-ghost use Rattle.turn_lock.specs.Passes.{IsClosed, IsPassOf, project_of, seen_by, left_by, splits_of};
+ghost use mathlib.Core.List.{IsPrefix};
+ghost use Rattle.turn_lock.specs.Passes.{IsClosed, IsPassOf, HasNoTurns, project_of, first_log, seen_by, left_by, splits_of};
 
 use super::{Pass, TurnLock, TurnOut};
 use crate::told::Told;
@@ -15,8 +16,10 @@ impl<T: Told> TurnLock<T> {
         T: Drop,
         ensures pass { IfOk result (λ r. IsPassOf T.project r.0 r.1) }
         ensures project { IfOk result (λ r. project_of T.project r.0 ≡ T.project value) }
+        ensures first { IfOk result (λ r. first_log T.log r.0 ≡ T.log value) }
         ensures seen { IfOk result (λ r. seen_by r.1 ≡ T.log value) }
         ensures left { IfOk result (λ r. left_by r.1 ≡ Some (T.state value)) }
+        ensures turns { IfOk result (λ r. HasNoTurns r.1) }
         ensures splits { IfOk result (λ r. splits_of r.1 ≡ 0) }
     {
         let length = value.log_len();
@@ -27,12 +30,13 @@ impl<T: Told> TurnLock<T> {
         Ok((TurnLock { table }, Pass { seat }))
     }
 
-    /// Gives the value back, with its whole log. A turn that was leaked keeps it.
+    /// Gives the value back. Its log begins with the one that the lock began with. A turn that was leaked keeps the value.
     pub fn close(self) -> Result<T, TurnOut>
     where
         T: Drop,
         ensures closed { IsClosed T.project T.log self result }
         ensures project { IfOk result (λ x. T.project x ≡ project_of T.project self) }
+        ensures began { IfOk result (λ x. IsPrefix (first_log T.log self) (T.log x)) }
     {
         let TurnLock { table } = self;
         let mut closed = table.close();

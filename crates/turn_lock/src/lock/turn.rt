@@ -2,7 +2,7 @@
 ghost use Rattle.std.specs.Prelude.{◌≡◌, [], Some};
 ghost use Rattle.std.specs.Borrow.{sem, Lends};
 ghost use mathlib.Core.List.{IsPrefix};
-ghost use Rattle.turn_lock.specs.Passes.{IsPassOf, HasTurn, seen_by, left_by, lost_by, splits_of};
+ghost use Rattle.turn_lock.specs.Passes.{IsPassOf, HasTurn, KeepsTurns, seen_by, left_by, lost_by, splits_of};
 ghost use Rattle.turn_lock.specs.contracts.lock.turn.Turn.{the_row as turn_row};
 ghost use Rattle.turn_lock.specs.Lending.{with_value};
 ghost use mir.Syntax.{named};
@@ -56,6 +56,7 @@ impl<'a, T: Told> Turn<'a, T> {
         ensures pass { IsPassOf T.project self.entry.lock.now self.exit.0.now }
         ensures seen { seen_by self.exit.0.now ≡ T.log self.entry.value }
         ensures left { left_by self.exit.0.now ≡ Some (T.state self.entry.value) }
+        ensures turns { KeepsTurns self.entry.pass.now self.exit.0.now }
         ensures splits { splits_of self.exit.0.now ≡ splits_of self.entry.pass.now }
         ensures lost { lost_by self.exit.0.now ≡ lost_by self.entry.pass.now }
     {

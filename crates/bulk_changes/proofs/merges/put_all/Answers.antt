@@ -6,6 +6,6 @@ use Rattle.bulk_changes.proofs.merges.put_all.Goals as goal
 
 pub enter_all-requires-clause-light : goal.enter_all-requires-clause-light
 enter_all-requires-clause-light c =
-    let es = entries_in c.args.heap.now c.args.of.0 in
-    let fs = entries_in c.args.heap.now c.args.other.0 in
+    let es = entries_in c.args.heap.now.state c.args.of.0 in
+    let fs = entries_in c.args.heap.now.state c.args.other.0 in
     ap (λ (b : Bool). weights_less b es fs) c.if-overwrite.false ∙ none_less es fs

@@ -9,5 +9,5 @@ use Rattle.bulk_changes.proofs.merges.set_null_at.Goals as goal
 pub enter-requires-clause-room : goal.enter-requires-clause-room
 enter-requires-clause-room c =
     let key : c.in_ok-key.key ≡ c.entry_at.result.0.now = search rules in
-    let there : is_some (lookup (same_key c.entry_at.result.0.now) (entries_in c.args.heap.now c.args.of.0)) ≡ true = search rules in
-    omega (arith, null_light c.args.heap.now c.args.of.0 c.in_ok-key.key c.requires.dict (ap (λ (k : Key). is_some (lookup (same_key k) (entries_in c.args.heap.now c.args.of.0))) key ∙ there), c.is_sound.ensures.light)
+    let there : is_some (lookup (same_key c.entry_at.result.0.now) (entries_in c.args.heap.now.state c.args.of.0)) ≡ true = search rules in
+    omega (arith, null_light c.args.heap.now.state c.args.of.0 c.in_ok-key.key c.requires.dict (ap (λ (k : Key). is_some (lookup (same_key k) (entries_in c.args.heap.now.state c.args.of.0))) key ∙ there), c.is_sound.ensures.light)

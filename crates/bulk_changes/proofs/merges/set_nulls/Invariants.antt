@@ -6,6 +6,6 @@ use Rattle.bulk_changes.proofs.merges.set_nulls.Given as goal
 
 abbrev pub invariant-loop-i : goal.invariant-loop-i
 invariant-loop-i l = record {
-  nulls : HasNulls l.fn.heap l.heap l.of.0 (entries_in l.fn.heap l.other.0) (take l.i (entries_in l.fn.heap l.other.0));
-  keeps : Keeps l.fn.heap.cells l.heap.cells;
+  nulls : HasNulls l.fn.heap.state l.heap.state l.of.0 (entries_in l.fn.heap.state l.other.0) (take l.i (entries_in l.fn.heap.state l.other.0));
+  keeps : Keeps l.fn.heap.state.cells l.heap.state.cells;
 }

@@ -1,4 +1,4 @@
-use Rattle.std.proofs.Common.{◌≡◌, ◌+◌, ◌*◌, ◌-◌, ◌≤◌, ◌++◌, length}
+use Rattle.std.proofs.Common.{◌≡◌, ◌+◌, ◌*◌, ◌-◌, ◌^◌, ◌≤◌, ◌++◌, length}
 use Rattle.variant_values.specs.Places.{weight}
 use Rattle.variant_values.specs.Heaps.{KnowsAll}
 use Rattle.variant_values.specs.Changes.{Keeps}
@@ -8,9 +8,10 @@ use Rattle.bulk_changes.proofs.resizes.add_many.Given as goal
 
 abbrev pub invariant-loop-i : goal.invariant-loop-i
 invariant-loop-i l = record {
-  cells : with_more l.heap (empty_cell l.kind) (l.count - l.i) ≡ with_more l.fn.heap (empty_cell l.kind) l.count;
-  row : l.list.items ++ in_a_row (named l.kind) (length l.heap.cells) (l.count - l.i) ≡ in_a_row (named l.kind) (length l.fn.heap.cells) l.count;
-  room : weight l.heap.cells + 16 * (l.count - l.i) ≤ 67108864;
-  keeps : Keeps l.fn.heap.cells l.heap.cells;
-  known : KnowsAll l.heap.cells l.list.items;
+  cells : with_more l.heap.state (empty_cell l.kind) (l.count - l.i) ≡ with_more l.fn.heap.state (empty_cell l.kind) l.count;
+  row : l.list.items ++ in_a_row (named l.kind) (length l.heap.state.cells) (l.count - l.i) ≡ in_a_row (named l.kind) (length l.fn.heap.state.cells) l.count;
+  room : weight l.heap.state.cells + 16 * (l.count - l.i) ≤ 67108864;
+  serials : length l.heap.state.cells + (l.count - l.i) ≤ 2 ^ 64;
+  keeps : Keeps l.fn.heap.state.cells l.heap.state.cells;
+  known : KnowsAll l.heap.state.cells l.list.items;
 }

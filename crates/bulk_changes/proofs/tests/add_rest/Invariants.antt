@@ -6,6 +6,6 @@ use Rattle.bulk_changes.proofs.tests.add_rest.Given as goal
 
 abbrev pub invariant-loop-i : goal.invariant-loop-i
 invariant-loop-i l = record {
-  dict : knows l.heap.cells (Dict l.s) ≡ true;
-  keeps : Keeps l.fn.heap.cells l.heap.cells;
+  dict : knows l.heap.state.cells (Dict l.s) ≡ true;
+  keeps : Keeps l.fn.heap.state.cells l.heap.state.cells;
 }

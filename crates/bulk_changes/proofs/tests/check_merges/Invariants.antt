@@ -6,7 +6,7 @@ use Rattle.bulk_changes.proofs.tests.check_merges.Given as goal
 
 abbrev pub invariant-loop-case : goal.invariant-loop-case
 invariant-loop-case g l = record {
-  dict : knows l.heap.cells (Dict l.s) ≡ true;
-  other : knows l.heap.cells (Dict l.other) ≡ true;
-  keeps : Keeps l.fn.heap.cells l.heap.cells;
+  dict : knows l.heap.state.cells (Dict l.s) ≡ true;
+  other : knows l.heap.state.cells (Dict l.other) ≡ true;
+  keeps : Keeps l.fn.heap.state.cells l.heap.state.cells;
 }

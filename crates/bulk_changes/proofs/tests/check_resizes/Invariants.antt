@@ -4,4 +4,4 @@ use Rattle.variant_values.specs.Heaps.{knows}
 use Rattle.bulk_changes.proofs.tests.check_resizes.Given as goal
 
 abbrev pub invariant-loop-case : goal.invariant-loop-case
-invariant-loop-case g l = knows l.heap.cells (Array l.s) ≡ true
+invariant-loop-case g l = knows l.heap.state.cells (Array l.s) ≡ true

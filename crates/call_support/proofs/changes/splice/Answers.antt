@@ -5,4 +5,4 @@ use Rattle.call_support.proofs.changes.splice.Goals as goal
 
 pub returns-in-Ok-clause-keeps : goal.returns-in-Ok-clause-keeps
 returns-in-Ok-clause-keeps c =
-    items_keep c.args.heap.now.cells c.splice.new.self.cells c.args.of.0 (spliced (items_of (cell_at c.args.heap.now.cells c.args.of.0)) c.args.at c.args.out c.args.put.items) c.requires.array (ap (λ (h : Heap). h.cells) c.in-Ok.ensures.ok)
+    items_keep c.args.heap.now.state.cells c.splice.new.self.state.cells c.args.of.0 (spliced (items_of (cell_at c.args.heap.now.state.cells c.args.of.0)) c.args.at c.args.out c.args.put.items) c.requires.array (ap (λ (h : Heap). h.cells) c.in-Ok.ensures.ok)

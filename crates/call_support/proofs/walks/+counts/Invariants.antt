@@ -18,13 +18,13 @@ decreases-room_after_entries l = 3 * l.levels + 2
 
 abbrev pub invariant-room_after_entries-loop-i : goal.invariant-room_after_entries-loop-i
 invariant-room_after_entries-loop-i l =
-    left_after l.left (count_items (λ e. items_in l.levels l.heap.cells e.1) (drop l.i l.entries)) ≡ left_after l.fn.room (count_items (λ e. items_in l.levels l.heap.cells e.1) l.entries)
+    left_after l.left (count_items (λ e. items_in l.levels l.heap.state.cells e.1) (drop l.i l.entries)) ≡ left_after l.fn.room (count_items (λ e. items_in l.levels l.heap.state.cells e.1) l.entries)
 
 abbrev pub decreases-room_after_items-loop-rest : goal.decreases-room_after_items-loop-rest
 decreases-room_after_items-loop-rest l = length l.rest
 
 abbrev pub invariant-room_after_items-loop-rest : goal.invariant-room_after_items-loop-rest
 invariant-room_after_items-loop-rest l = record {
-  known : KnowsAll l.heap.cells l.rest;
-  left : left_after l.left (count_items (items_in l.levels l.heap.cells) l.rest) ≡ left_after l.fn.room (count_items (items_in l.levels l.heap.cells) l.fn.items);
+  known : KnowsAll l.heap.state.cells l.rest;
+  left : left_after l.left (count_items (items_in l.levels l.heap.state.cells) l.rest) ≡ left_after l.fn.room (count_items (items_in l.levels l.heap.state.cells) l.fn.items);
 }

@@ -5,4 +5,4 @@ use Rattle.variant_values.specs.Heaps.{knows, KnowsAll}
 use Rattle.container_calls.proofs.arrays.slice.Goals as goal
 
 pub new_array-requires : goal.new_array-requires
-new_array-requires c = subst (λ (vs : List Value). KnowsAll c.args.heap.now.cells vs) (sym c.in_ok-part.ensures) (All-take (λ (v : Value). knows c.args.heap.now.cells v ≡ true) _ _ (All-drop (λ (v : Value). knows c.args.heap.now.cells v ≡ true) _ c.items-all.result.now c.items-all.ensures.known))
+new_array-requires c = subst (λ (vs : List Value). KnowsAll c.args.heap.now.state.cells vs) (sym c.in_ok-part.ensures) (All-take (λ (v : Value). knows c.args.heap.now.state.cells v ≡ true) _ _ (All-drop (λ (v : Value). knows c.args.heap.now.state.cells v ≡ true) _ c.items-all.result.now c.items-all.ensures.known))

@@ -25,7 +25,7 @@ decreases-same_entries l = 4 * l.levels + 3
 
 -- the rest of the walk gives what the whole gives
 abbrev pub invariant-same_items-loop-i : goal.invariant-same_items-loop-i
-invariant-same_items-loop-i l = same_items (λ a b n. same_at l.heap.cells l.levels a b n) l.vs l.ws l.room ≡ same_items (λ a b n. same_at l.heap.cells l.levels a b n) (drop l.i l.vs) (drop l.i l.ws) l.left
+invariant-same_items-loop-i l = same_items (λ a b n. same_at l.heap.state.cells l.levels a b n) l.vs l.ws l.room ≡ same_items (λ a b n. same_at l.heap.state.cells l.levels a b n) (drop l.i l.vs) (drop l.i l.ws) l.left
 
 abbrev pub invariant-same_entries-loop-i : goal.invariant-same_entries-loop-i
-invariant-same_entries-loop-i l = same_entries (λ a b n. same_at l.heap.cells l.levels a b n) l.es l.fs l.room ≡ same_entries (λ a b n. same_at l.heap.cells l.levels a b n) (drop l.i l.es) l.fs l.left
+invariant-same_entries-loop-i l = same_entries (λ a b n. same_at l.heap.state.cells l.levels a b n) l.es l.fs l.room ≡ same_entries (λ a b n. same_at l.heap.state.cells l.levels a b n) (drop l.i l.es) l.fs l.left

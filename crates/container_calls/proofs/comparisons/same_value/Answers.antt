@@ -5,4 +5,4 @@ use Rattle.container_calls.proofs.comparisons.same_value.Goals as goal
 
 pub returns : goal.returns
 unfolding same_value
-returns c = c.verdict.ensures ∙ ap (λ r. verdict r) (c.same_at.ensures ∙ sym (at_is c.args.heap.now.cells 64 c.args.a.now c.args.b.now 1048576))
+returns c = c.verdict.ensures ∙ ap (λ r. verdict r) (c.same_at.ensures ∙ sym (at_is c.args.heap.now.state.cells 64 c.args.a.now c.args.b.now 1048576))

@@ -6,6 +6,6 @@ use Rattle.container_calls.proofs.dict_tests.check_all.Given as goal
 
 abbrev pub invariant-loop-case : goal.invariant-loop-case
 invariant-loop-case g l = record {
-  dict : knows l.heap.cells (Dict l.d) ≡ true;
-  keeps : Keeps l.fn.heap.cells l.heap.cells;
+  dict : knows l.heap.state.cells (Dict l.d) ≡ true;
+  keeps : Keeps l.fn.heap.state.cells l.heap.state.cells;
 }

@@ -17,13 +17,13 @@ less : (h new : Heap) (x : ℕ) (k : Key) → is_dict (cell_at h.cells x) ≡ tr
 less h new x k dict after l = subst (λ (g : Heap). length (entries_in g x) < length (entries_in h x)) (sym after) (fewer h x dict k l)
 
 pub loop-key-smaller-in-Some : goal.loop-key-smaller-in-Some
-loop-key-smaller-in-Some c = less c.loop-key.heap c.remove_entry.new.self c.args.of.0 c.in-Some.key c.loop-key.invariant.dict c.remove_entry.ensures.after (last_is c.loop-key.heap c.args.of.0 c.in_ok-key.field-0 c.entries.result.now c.in-Some.key c.in_ok-key.ensures c.entries.ensures.value c.in-Some.is)
+loop-key-smaller-in-Some c = less c.loop-key.heap.state c.remove_entry.new.self.state c.args.of.0 c.in-Some.key c.loop-key.invariant.dict c.remove_entry.ensures.after (last_is c.loop-key.heap.state c.args.of.0 c.in_ok-key.field-0 c.entries.result.now c.in-Some.key c.in_ok-key.ensures c.entries.ensures.value c.in-Some.is)
 
 pub loop-key-preserved-in-Some : goal.loop-key-preserved-in-Some
-loop-key-preserved-in-Some c = let both = kept c.args.heap.now c.loop-key.heap c.remove_entry.new.self c.args.of.0 c.in-Some.key c.requires c.loop-key.invariant.dict c.loop-key.invariant.rest c.remove_entry.ensures.after in record { dict = both.0; rest = both.1 }
+loop-key-preserved-in-Some c = let both = kept c.args.heap.now.state c.loop-key.heap.state c.remove_entry.new.self.state c.args.of.0 c.in-Some.key c.requires c.loop-key.invariant.dict c.loop-key.invariant.rest c.remove_entry.ensures.after in record { dict = both.0; rest = both.1 }
 
 pub loop-key-smaller : goal.loop-key-smaller
-loop-key-smaller c = less c.loop-key.heap c.remove_entry.new.self c.args.of.0 c.in-Some.key c.loop-key.invariant.dict c.remove_entry.ensures.after (last_is c.loop-key.heap c.args.of.0 c.in_ok-key.field-0 c.entries.result.now c.in-Some.key c.in_ok-key.ensures c.entries.ensures.value c.in-Some.is)
+loop-key-smaller c = less c.loop-key.heap.state c.remove_entry.new.self.state c.args.of.0 c.in-Some.key c.loop-key.invariant.dict c.remove_entry.ensures.after (last_is c.loop-key.heap.state c.args.of.0 c.in_ok-key.field-0 c.entries.result.now c.in-Some.key c.in_ok-key.ensures c.entries.ensures.value c.in-Some.is)
 
 pub loop-key-preserved : goal.loop-key-preserved
-loop-key-preserved c = let both = kept c.args.heap.now c.loop-key.heap c.remove_entry.new.self c.args.of.0 c.in-Some.key c.requires c.loop-key.invariant.dict c.loop-key.invariant.rest c.remove_entry.ensures.after in record { dict = both.0; rest = both.1 }
+loop-key-preserved c = let both = kept c.args.heap.now.state c.loop-key.heap.state c.remove_entry.new.self.state c.args.of.0 c.in-Some.key c.requires c.loop-key.invariant.dict c.loop-key.invariant.rest c.remove_entry.ensures.after in record { dict = both.0; rest = both.1 }

@@ -6,4 +6,4 @@ use Rattle.container_calls.proofs.Entries.{keys_known}
 use Rattle.container_calls.proofs.dicts.keys.Goals as goal
 
 pub new_array-requires : goal.new_array-requires
-new_array-requires c = subst (λ (vs : List Value). KnowsAll c.args.heap.now.cells vs) (sym c.in_ok-list.ensures) (keys_known c.args.heap.now.cells c.entries.result.now c.entries.ensures.known)
+new_array-requires c = subst (λ (vs : List Value). KnowsAll c.args.heap.now.state.cells vs) (sym c.in_ok-list.ensures) (keys_known c.args.heap.now.state.cells c.entries.result.now c.entries.ensures.known)

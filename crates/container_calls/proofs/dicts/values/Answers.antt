@@ -5,4 +5,4 @@ use Rattle.container_calls.proofs.Entries.{values_known}
 use Rattle.container_calls.proofs.dicts.values.Goals as goal
 
 pub new_array-requires : goal.new_array-requires
-new_array-requires c = subst (λ (vs : List Value). KnowsAll c.args.heap.now.cells vs) (sym c.in_ok-list.ensures) (values_known c.args.heap.now.cells c.entries.result.now c.entries.ensures.known)
+new_array-requires c = subst (λ (vs : List Value). KnowsAll c.args.heap.now.state.cells vs) (sym c.in_ok-list.ensures) (values_known c.args.heap.now.state.cells c.entries.result.now c.entries.ensures.known)

@@ -5,4 +5,4 @@ use Rattle.variant_values.specs.Heaps.{knows, KnowsAll}
 use Rattle.container_calls.proofs.operations.join_arrays.Goals as goal
 
 pub new_array-requires : goal.new_array-requires
-new_array-requires c = subst (λ (vs : List Value). KnowsAll c.args.heap.now.cells vs) (sym c.in_ok-both.ensures) (All-append (λ (v : Value). knows c.args.heap.now.cells v ≡ true) c.items.result.now c.items-2.result.now c.items.ensures.known c.items-2.ensures.known)
+new_array-requires c = subst (λ (vs : List Value). KnowsAll c.args.heap.now.state.cells vs) (sym c.in_ok-both.ensures) (All-append (λ (v : Value). knows c.args.heap.now.state.cells v ≡ true) c.items.result.now c.items-2.result.now c.items.ensures.known c.items-2.ensures.known)

@@ -20,4 +20,4 @@ gone_known h new s known freed =
     (ap is_no_container (gone h new s.0 (freed.cells s.0))))
 
 pub returns : goal.returns
-returns c = gone_known c.add_object.new.heap c.free_node.new.self c.in_ok-s.s c.in_ok-s.ensures.known c.in_ok-free_node.ensures.ok
+returns c = gone_known c.add_object.new.heap.state c.free_node.new.self.state c.in_ok-s.s c.in_ok-s.ensures.known c.in_ok-free_node.ensures.ok

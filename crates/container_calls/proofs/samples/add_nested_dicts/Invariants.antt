@@ -6,6 +6,6 @@ use Rattle.container_calls.proofs.samples.add_nested_dicts.Given as goal
 
 abbrev pub invariant-loop : goal.invariant-loop
 invariant-loop l = record {
-  dict : knows l.heap.cells (Dict l.d) ≡ true;
-  keeps : Keeps l.fn.heap.cells l.heap.cells;
+  dict : knows l.heap.state.cells (Dict l.d) ≡ true;
+  keeps : Keeps l.fn.heap.state.cells l.heap.state.cells;
 }

@@ -9,4 +9,4 @@ has_cell [] s h = cc
 has_cell (c ∷ cells) s h = omega arith
 
 pub new_object-requires : goal.new_object-requires
-new_object-requires c = record { some = has_cell c.add_empty.new.heap.cells c.in_ok-add_empty.field-0 c.in_ok-add_empty.ensures.array }
+new_object-requires c = record { some = has_cell c.add_empty.new.heap.state.cells c.in_ok-add_empty.field-0 c.in_ok-add_empty.ensures.array }

@@ -6,6 +6,6 @@ use Rattle.container_calls.proofs.samples.double.Given as goal
 
 abbrev pub invariant-loop : goal.invariant-loop
 invariant-loop l = record {
-  array : knows l.heap.cells (Array l.s) ≡ true;
-  keeps : Keeps l.fn.heap.cells l.heap.cells;
+  array : knows l.heap.state.cells (Array l.s) ≡ true;
+  keeps : Keeps l.fn.heap.state.cells l.heap.state.cells;
 }

@@ -28,7 +28,7 @@ module _ (cells new : List (Option Cell)) (o : AnObject) (s : Serial) (some : 0 
       ∙ ap (λ b. b && not (is_some o.node)) none
 
 pub returns-clause-known : goal.returns-clause-known
-returns-clause-known c = new_known c.args.heap.now.cells c.new_cell.new.self.cells _ c.in_ok-new_cell.field-0 c.requires.some c.in_ok-new_cell.ensures.serial (ap (λ (h : Heap). h.cells) c.in_ok-new_cell.ensures.ok)
+returns-clause-known c = new_known c.args.heap.now.state.cells c.new_cell.new.self.state.cells _ c.in_ok-new_cell.field-0 c.requires.some c.in_ok-new_cell.ensures.serial (ap (λ (h : Heap). h.cells) c.in_ok-new_cell.ensures.ok)
 
 pub returns-clause-uncounted : goal.returns-clause-uncounted
-returns-clause-uncounted c = new_uncounted c.args.heap.now.cells c.new_cell.new.self.cells _ c.in_ok-new_cell.field-0 c.requires.some c.in_ok-new_cell.ensures.serial (ap (λ (h : Heap). h.cells) c.in_ok-new_cell.ensures.ok) _ c.in_ok-lineage.ensures refl
+returns-clause-uncounted c = new_uncounted c.args.heap.now.state.cells c.new_cell.new.self.state.cells _ c.in_ok-new_cell.field-0 c.requires.some c.in_ok-new_cell.ensures.serial (ap (λ (h : Heap). h.cells) c.in_ok-new_cell.ensures.ok) _ c.in_ok-lineage.ensures refl

@@ -6,4 +6,4 @@ use Rattle.container_calls.proofs.Sorting.{order_all}
 use Rattle.container_calls.proofs.sorts.sort_texts.Goals as goal
 
 pub change-requires-clause-put : goal.change-requires-clause-put
-change-requires-clause-put c = subst (λ (vs : List Value). KnowsAll c.args.heap.now.cells vs) (sym c.in_ok-list.ensures) (order_all text_before (λ (v : Value). knows c.args.heap.now.cells v ≡ true) c.items.result.now c.items.ensures.known)
+change-requires-clause-put c = subst (λ (vs : List Value). KnowsAll c.args.heap.now.state.cells vs) (sym c.in_ok-list.ensures) (order_all text_before (λ (v : Value). knows c.args.heap.now.state.cells v ≡ true) c.items.result.now c.items.ensures.known)

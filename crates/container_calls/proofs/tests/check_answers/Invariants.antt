@@ -6,6 +6,6 @@ use Rattle.container_calls.proofs.tests.check_answers.Given as goal
 
 abbrev pub invariant-loop-case : goal.invariant-loop-case
 invariant-loop-case g l = record {
-  array : knows l.heap.cells (Array l.s) ≡ true;
-  keeps : Keeps l.fn.heap.cells l.heap.cells;
+  array : knows l.heap.state.cells (Array l.s) ≡ true;
+  keeps : Keeps l.fn.heap.state.cells l.heap.state.cells;
 }

@@ -22,21 +22,21 @@ decreases-copy_dict l = 3 * l.levels + 2
 
 abbrev pub invariant-copy_items-loop-i : goal.invariant-copy_items-loop-i
 invariant-copy_items-loop-i l =
-    let from = items_of (cell_at l.fn.heap.cells l.of.0) in
+    let from = items_of (cell_at l.fn.heap.state.cells l.of.0) in
     record {
-      done : KnowsAll l.heap.cells l.copy.items;
-      keeps : Keeps l.fn.heap.cells l.heap.cells;
-      stays : cell_at l.heap.cells l.of.0 ≡ cell_at l.fn.heap.cells l.of.0;
-      whole : (l.copy.items ++ (copied_items (copied l.levels) l.heap (drop l.i from)).0, (copied_items (copied l.levels) l.heap (drop l.i from)).1) ≡ copied_items (copied l.levels) l.fn.heap from;
+      done : KnowsAll l.heap.state.cells l.copy.items;
+      keeps : Keeps l.fn.heap.state.cells l.heap.state.cells;
+      stays : cell_at l.heap.state.cells l.of.0 ≡ cell_at l.fn.heap.state.cells l.of.0;
+      whole : (l.copy.items ++ (copied_items (copied l.levels) l.heap.state (drop l.i from)).0, (copied_items (copied l.levels) l.heap.state (drop l.i from)).1) ≡ copied_items (copied l.levels) l.fn.heap.state from;
     }
 
 abbrev pub invariant-copy_entries-loop-i : goal.invariant-copy_entries-loop-i
 invariant-copy_entries-loop-i l =
-    let from = entries_of (cell_at l.fn.heap.cells l.of.0) in
+    let from = entries_of (cell_at l.fn.heap.state.cells l.of.0) in
     record {
-      done : KnowsEntries l.heap.cells l.copy;
-      keeps : Keeps l.fn.heap.cells l.heap.cells;
-      stays : cell_at l.heap.cells l.of.0 ≡ cell_at l.fn.heap.cells l.of.0;
+      done : KnowsEntries l.heap.state.cells l.copy;
+      keeps : Keeps l.fn.heap.state.cells l.heap.state.cells;
+      stays : cell_at l.heap.state.cells l.of.0 ≡ cell_at l.fn.heap.state.cells l.of.0;
       once : HasKeysOnce (l.copy ++ drop l.i from);
-      whole : (l.copy ++ (copied_entries (copied l.levels) l.heap (drop l.i from)).0, (copied_entries (copied l.levels) l.heap (drop l.i from)).1) ≡ copied_entries (copied l.levels) l.fn.heap from;
+      whole : (l.copy ++ (copied_entries (copied l.levels) l.heap.state (drop l.i from)).0, (copied_entries (copied l.levels) l.heap.state (drop l.i from)).1) ≡ copied_entries (copied l.levels) l.fn.heap.state from;
     }

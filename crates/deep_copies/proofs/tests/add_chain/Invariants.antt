@@ -3,4 +3,4 @@ use Rattle.variant_values.specs.Heaps.{knows}
 use Rattle.deep_copies.proofs.tests.add_chain.Given as goal
 
 abbrev pub invariant-loop : goal.invariant-loop
-invariant-loop l = knows l.heap.cells l.top ≡ true
+invariant-loop l = knows l.heap.state.cells l.top ≡ true

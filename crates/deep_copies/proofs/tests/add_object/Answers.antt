@@ -15,4 +15,4 @@ new_known cells new o s some serial is = subst (λ (n : List (Option Cell)). kno
     (ap is_no_container (get_or_push cells (Some (ObjectCell o)) None s.0 (sym serial)))))
 
 pub returns-clause-known : goal.returns-clause-known
-returns-clause-known c = new_known c.args.heap.now.cells c.new_cell.new.self.cells _ c.in_ok-new_cell.field-0 c.requires.some c.in_ok-new_cell.ensures.serial (ap (λ (h : Heap). h.cells) c.in_ok-new_cell.ensures.ok)
+returns-clause-known c = new_known c.args.heap.now.state.cells c.new_cell.new.self.state.cells _ c.in_ok-new_cell.field-0 c.requires.some c.in_ok-new_cell.ensures.serial (ap (λ (h : Heap). h.cells) c.in_ok-new_cell.ensures.ok)

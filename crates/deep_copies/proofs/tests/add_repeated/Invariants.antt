@@ -5,6 +5,6 @@ use Rattle.deep_copies.proofs.tests.add_repeated.Given as goal
 
 abbrev pub invariant-loop : goal.invariant-loop
 invariant-loop l = record {
-  known : knows l.heap.cells l.list ≡ true;
-  keeps : Keeps l.fn.heap.cells l.heap.cells;
+  known : knows l.heap.state.cells l.list ≡ true;
+  keeps : Keeps l.fn.heap.state.cells l.heap.state.cells;
 }

@@ -1,7 +1,7 @@
 use Rattle.gd_syntax.proofs.Steps.{exit}
 use Rattle.gd_syntax.specs.Reading.{Loop}
 use Rattle.gd_syntax.proofs.MemberSteps.{head_none}
-use Rattle.gd_parser.specs.Files.{in_header}
+use Rattle.gd_syntax.specs.ScriptGrammar.{in_header}
 use Rattle.std.proofs.Common.{refl}
 use Rattle.gd_parser.proofs.script.all_heads.Goals as goal
 

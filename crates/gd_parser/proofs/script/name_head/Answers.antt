@@ -4,8 +4,8 @@ use Rattle.gd_syntax.specs.Reading.Look.{looks}
 use Rattle.gd_syntax.specs.Reading.{Read, On}
 use Rattle.gd_syntax.specs.TokenReading.{place_at}
 use Rattle.gd_parser.proofs.HeadSteps.{name_refuses, name_reads}
-use Rattle.gd_parser.specs.Files.{in_header, heads_of}
-use Rattle.gd_syntax.specs.ScriptGrammar.{Heads}
+use Rattle.gd_parser.specs.Files.{heads_of}
+use Rattle.gd_syntax.specs.ScriptGrammar.{Heads, in_header}
 use Rattle.std.proofs.Common.{ap, refl, sym, ◌∙◌}
 use Rattle.gd_parser.proofs.script.name_head.Goals as goal
 

@@ -1,4 +1,4 @@
-use Rattle.gd_syntax.proofs.Exists.{has_one}
+use Rattle.grammar_laws.proofs.Exists.{has_one}
 use Rattle.gdrun.proofs.TakenForms.{only_file, takes_file}
 use Rattle.gdrun.proofs.laws.what_is_taken.Goals as goal
 

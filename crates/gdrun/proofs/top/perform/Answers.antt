@@ -10,7 +10,7 @@ returns-in_err-read_command-clause-run g c =
     rw (failed.1, failed.2) (some_run (texts_of c.args.words.now) (g.F.Folder.files c.args.folder.now) (g.F.Folder.calls c.args.folder.now) _ _ _)
 
 pub returns-in-None-clause-run : goal.returns-in-None-clause-run
-returns-in-None-clause-run g c = usage_run (texts_of c.args.words.now) _ _ _ _ _ _ _ (search rules) c.finish.ensures.wrote
+returns-in-None-clause-run g c = usage_run (texts_of c.args.words.now) _ _ _ _ _ _ _ (search rules) c.finish.ensures
 
 pub returns-in-Some-clause-run : goal.returns-in-Some-clause-run
 returns-in-Some-clause-run g c = of_script_run (texts_of c.args.words.now) c.in-Some.command.path c.in-Some.command.steps _ _ _ _ _ _ _ (search rules) c.perform_script.ensures.run

@@ -26,8 +26,8 @@ decreases-write_dict l = 5 * l.levels + 4
 
 abbrev pub invariant-write_items-loop-v : goal.invariant-write_items-loop-v
 invariant-write_items-loop-v l =
-    l.out ++ flat_map (λ v. codes ", " ++ shown (text_in l.levels l.heap.cells l.names) v) (drop l.v-index l.others) ≡ l.initial.out ++ flat_map (λ v. codes ", " ++ shown (text_in l.levels l.heap.cells l.names) v) l.others
+    l.out ++ flat_map (λ v. codes ", " ++ shown (text_in l.levels l.heap.state.cells l.names) v) (drop l.v-index l.others) ≡ l.initial.out ++ flat_map (λ v. codes ", " ++ shown (text_in l.levels l.heap.state.cells l.names) v) l.others
 
 abbrev pub invariant-write_entries-loop-i : goal.invariant-write_entries-loop-i
 invariant-write_entries-loop-i l =
-    l.out ++ flat_map (λ e. codes ", " ++ entry_text l.heap.cells l.names (text_in l.levels l.heap.cells l.names) e) (drop l.i l.entries) ≡ l.initial.out ++ flat_map (λ e. codes ", " ++ entry_text l.heap.cells l.names (text_in l.levels l.heap.cells l.names) e) (drop 1 l.entries)
+    l.out ++ flat_map (λ e. codes ", " ++ entry_text l.heap.state.cells l.names (text_in l.levels l.heap.state.cells l.names) e) (drop l.i l.entries) ≡ l.initial.out ++ flat_map (λ e. codes ", " ++ entry_text l.heap.state.cells l.names (text_in l.levels l.heap.state.cells l.names) e) (drop 1 l.entries)

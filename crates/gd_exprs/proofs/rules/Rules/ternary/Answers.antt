@@ -20,17 +20,17 @@ returns-then-not-sees-clause-reads g c = goes c.in_ok-left.ensures.reads (ternar
 pub returns-in_err-fits_over-clause-reads : goal.returns-in_err-fits_over-clause-reads
 returns-in_err-fits_over-clause-reads g c = exit _ _ _ _ _ c.from_residual-in_err-fits_over.ensures.1 (λ f h. goes c.in_ok-left.ensures.reads (looks (c.sees.ensures.yes c.if-not-sees.false) (halts (fits_with _ _ _ _ 1 _ c.in_ok-left.ensures.found.levels h)))) c.in_err-fits_over.ensures.reads
 
-pub returns-in_err-c-clause-reads : goal.returns-in_err-c-clause-reads
-returns-in_err-c-clause-reads g c = exit _ _ _ _ _ c.from_residual-in_err-c.ensures.1 (λ f h. goes c.in_ok-left.ensures.reads (looks (c.sees.ensures.yes c.if-not-sees.false) (goes (fits_with _ _ _ _ 1 _ c.in_ok-left.ensures.found.levels c.in_ok-fits_over.ensures.reads) (goes (ap (λ n. Read tt n) c.skip.ensures.next) (halts h))))) c.in_err-c.ensures.reads
+pub returns-in_err-condition-clause-reads : goal.returns-in_err-condition-clause-reads
+returns-in_err-condition-clause-reads g c = exit _ _ _ _ _ c.from_residual-in_err-condition.ensures.1 (λ f h. goes c.in_ok-left.ensures.reads (looks (c.sees.ensures.yes c.if-not-sees.false) (goes (fits_with _ _ _ _ 1 _ c.in_ok-left.ensures.found.levels c.in_ok-fits_over.ensures.reads) (goes (ap (λ n. Read tt n) c.skip.ensures.next) (halts h))))) c.in_err-condition.ensures.reads
 
 pub returns-in_err-at-clause-reads : goal.returns-in_err-at-clause-reads
-returns-in_err-at-clause-reads g c = exit _ _ _ _ _ c.from_residual-in_err-at.ensures.1 (λ f h. goes c.in_ok-left.ensures.reads (looks (c.sees.ensures.yes c.if-not-sees.false) (goes (fits_with _ _ _ _ 1 _ c.in_ok-left.ensures.found.levels c.in_ok-fits_over.ensures.reads) (goes (ap (λ n. Read tt n) c.skip.ensures.next) (goes c.in_ok-c.ensures.reads (halts h)))))) c.in_err-at.ensures.reads
+returns-in_err-at-clause-reads g c = exit _ _ _ _ _ c.from_residual-in_err-at.ensures.1 (λ f h. goes c.in_ok-left.ensures.reads (looks (c.sees.ensures.yes c.if-not-sees.false) (goes (fits_with _ _ _ _ 1 _ c.in_ok-left.ensures.found.levels c.in_ok-fits_over.ensures.reads) (goes (ap (λ n. Read tt n) c.skip.ensures.next) (goes c.in_ok-condition.ensures.reads (halts h)))))) c.in_err-at.ensures.reads
 
-pub returns-in_err-b-clause-reads : goal.returns-in_err-b-clause-reads
-returns-in_err-b-clause-reads g c = exit _ _ _ _ _ c.from_residual-in_err-b.ensures.1 (λ f h. goes c.in_ok-left.ensures.reads (looks (c.sees.ensures.yes c.if-not-sees.false) (goes (fits_with _ _ _ _ 1 _ c.in_ok-left.ensures.found.levels c.in_ok-fits_over.ensures.reads) (goes (ap (λ n. Read tt n) c.skip.ensures.next) (goes c.in_ok-c.ensures.reads (goes c.in_ok-at.ensures.reads (halts h))))))) c.in_err-b.ensures.reads
+pub returns-in_err-otherwise-clause-reads : goal.returns-in_err-otherwise-clause-reads
+returns-in_err-otherwise-clause-reads g c = exit _ _ _ _ _ c.from_residual-in_err-otherwise.ensures.1 (λ f h. goes c.in_ok-left.ensures.reads (looks (c.sees.ensures.yes c.if-not-sees.false) (goes (fits_with _ _ _ _ 1 _ c.in_ok-left.ensures.found.levels c.in_ok-fits_over.ensures.reads) (goes (ap (λ n. Read tt n) c.skip.ensures.next) (goes c.in_ok-condition.ensures.reads (goes c.in_ok-at.ensures.reads (halts h))))))) c.in_err-otherwise.ensures.reads
 
 pub returns-clause-reads : goal.returns-clause-reads
-returns-clause-reads g c = goes c.in_ok-left.ensures.reads (looks (c.sees.ensures.yes c.if-not-sees.false) (goes (fits_with _ _ _ _ 1 _ c.in_ok-left.ensures.found.levels c.in_ok-fits_over.ensures.reads) (goes (ap (λ n. Read tt n) c.skip.ensures.next) (goes c.in_ok-c.ensures.reads (goes c.in_ok-at.ensures.reads (goes c.in_ok-b.ensures.reads (rw (c.in_ok-new.ensures, c.place_at-place.ensures))))))))
+returns-clause-reads g c = goes c.in_ok-left.ensures.reads (looks (c.sees.ensures.yes c.if-not-sees.false) (goes (fits_with _ _ _ _ 1 _ c.in_ok-left.ensures.found.levels c.in_ok-fits_over.ensures.reads) (goes (ap (λ n. Read tt n) c.skip.ensures.next) (goes c.in_ok-condition.ensures.reads (goes c.in_ok-at.ensures.reads (goes c.in_ok-otherwise.ensures.reads (rw (c.in_ok-new.ensures, c.place_at-place.ensures))))))))
 
 pub returns-clause-found : goal.returns-clause-found
-returns-clause-found g c = let a = c.in_ok-left.ensures.found in let f = c.in_ok-c.ensures.found in let h = c.in_ok-b.ensures.found in let room : c.in_ok-left.left.levels + 1 ≤ c.args.self.now.room = c.in_ok-fits_over.ensures.fits in record { some = omega arith; levels = omega (arith, levels-Ternary c.place_at-place.result c.in_ok-left.left.tree c.in_ok-c.field-0.tree c.in_ok-b.field-0.tree, ap levels c.in_ok-new.ensures, a.levels, f.levels, h.levels); fits = omega (arith, f.fits, h.fits, room); after = omega (arith, a.after, f.after, c.skip.ensures.next, h.after, c.in_ok-at.ensures.next); within = h.within }
+returns-clause-found g c = let a = c.in_ok-left.ensures.found in let f = c.in_ok-condition.ensures.found in let h = c.in_ok-otherwise.ensures.found in let room : c.in_ok-left.left.levels + 1 ≤ c.args.self.now.room = c.in_ok-fits_over.ensures.fits in record { some = omega arith; levels = omega (arith, levels-Ternary c.place_at-place.result c.in_ok-left.left.tree c.in_ok-condition.field-0.tree c.in_ok-otherwise.field-0.tree, ap levels c.in_ok-new.ensures, a.levels, f.levels, h.levels); fits = omega (arith, f.fits, h.fits, room); after = omega (arith, a.after, f.after, c.skip.ensures.next, h.after, c.in_ok-at.ensures.next); within = h.within }

@@ -12,4 +12,4 @@ pub returns-in_err-body-clause-reads : goal.returns-in_err-body-clause-reads
 returns-in_err-body-clause-reads g c = exit _ _ _ _ _ c.from_residual-in_err-body.ensures.1 (λ f h. goes (ap (λ n. Read tt n) c.skip.ensures.next) (headed_then c.args.self.now.tokens.now _ _ _ (goes c.in_ok-condition.ensures.reads (halts h)))) c.in_err-body.ensures.reads
 
 pub returns-clause-reads : goal.returns-clause-reads
-returns-clause-reads g c = goes (ap (λ n. Read tt n) c.skip.ensures.next) (headed_then c.args.self.now.tokens.now _ _ _ (goes c.in_ok-condition.ensures.reads (goes c.in_ok-body.ensures.reads (rw (c.into_inner.ensures)))))
+returns-clause-reads g c = goes (ap (λ n. Read tt n) c.skip.ensures.next) (headed_then c.args.self.now.tokens.now _ _ _ (goes c.in_ok-condition.ensures.reads (goes c.in_ok-body.ensures.reads (rw (c.into_inner.ensures, c.place_at-place.ensures)))))

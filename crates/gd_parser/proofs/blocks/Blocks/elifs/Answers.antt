@@ -4,16 +4,15 @@ use Rattle.gd_syntax.proofs.Steps.{exit}
 use Rattle.gd_syntax.specs.Reading.{Loop}
 use Rattle.gd_syntax.specs.Reading.Look.{looks}
 use Rattle.gd_syntax.specs.Reading.Then.{goes, halts}
-use Rattle.gd_syntax.specs.declared.tree.expr.Expr.{Expr}
-use Rattle.gd_syntax.specs.declared.tree.statement.Stmt.{Stmt}
+use Rattle.gd_syntax.specs.declared.tree.statement.Branch.{Branch}
 use Rattle.std.proofs.Common.{List, arith, refl, subst}
 use Rattle.gd_parser.proofs.blocks.Blocks.elifs.Goals as goal
 
-pub returns-in_err-condition-clause-reads : goal.returns-in_err-condition-clause-reads
-returns-in_err-condition-clause-reads g c = exit _ _ _ _ _ c.from_residual.ensures.1 (λ f h. c.branches.invariant.reads _ (Loop.stop (looks (c.sees.ensures.yes c.branches-test.true) (halts h)))) c.in_err-condition.ensures.reads
+pub returns-in_err-branch-clause-reads : goal.returns-in_err-branch-clause-reads
+returns-in_err-branch-clause-reads g c = exit _ _ _ _ _ c.from_residual.ensures.1 (λ f h. c.branches.invariant.reads _ (Loop.stop (looks (c.sees.ensures.yes c.branches-test.true) (halts h)))) c.in_err-branch.ensures.reads
 
 pub branches-preserved : goal.branches-preserved
-branches-preserved g c = record { reads = λ o rest. c.branches.invariant.reads o (Loop.on (looks (c.sees.ensures.yes c.branches-test.true) (goes c.in_ok-condition.ensures.reads refl)) (let P : List (Expr × List Stmt) → Type 0 = λ all. Loop (elif c.args.self.now.tokens.now c.args.self.now.room) all c.in_ok-condition.next o in subst P c.in_ok-push.ensures.ok rest)); after = omega (arith, c.in_ok-condition.ensures.after, c.branches.invariant.after); within = c.in_ok-condition.ensures.within }
+branches-preserved g c = record { reads = λ o rest. c.branches.invariant.reads o (Loop.on (looks (c.sees.ensures.yes c.branches-test.true) (goes c.in_ok-branch.ensures.reads refl)) (let P : List Branch → Type 0 = λ all. Loop (elif c.args.self.now.tokens.now c.args.self.now.room) all c.in_ok-branch.next o in subst P c.in_ok-push.ensures.ok rest)); after = omega (arith, c.in_ok-branch.ensures.after, c.branches.invariant.after); within = c.in_ok-branch.ensures.within }
 
 pub returns-clause-reads : goal.returns-clause-reads
 returns-clause-reads g c = c.branches.invariant.reads _ (Loop.last (elif_none c.args.self.now.tokens.now (inner c.args.self.now.tokens.now c.args.self.now.room) _ _ _ (c.sees.ensures.no c.branches-test.false) refl))

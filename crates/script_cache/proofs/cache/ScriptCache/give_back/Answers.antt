@@ -4,13 +4,18 @@ use Rattle.script_cache.proofs.cache.ScriptCache.give_back.Goals as goal
 
 pub returns-clause-given_back : goal.returns-clause-given_back
 returns-clause-given_back g c = record {
-  before = c.enter-turn.result.value.core;
+  found = c.enter-turn.result.value.core.state;
   entry = record {
+    turns = search rules;
+    found_log = search rules;
+    found_tasks = search rules;
     its_project = search rules;
-    seen = c.enter-turn.ensures.entered.seen;
+    begins = c.enter-turn.ensures.entered.seen;
     log = search rules;
     in_progress = search rules;
+    lost = search rules;
     splits = search rules;
+    earlier = search rules;
   };
 }
 
@@ -19,7 +24,7 @@ returns-clause-back g c =
     let file : c.job.inside.claim.file ≡ c.args.job.file = ap (λ j. j.file) c.job.view_is in
     let stage : c.job.inside.claim.stage ≡ c.args.job.stage = ap (λ j. j.stage) c.job.view_is in
     rw (← file, ← stage) (record {
-      in_progress = c.give_back.new.self.in_progress;
+      in_progress = c.give_back.new.self.state.in_progress;
       left = search rules;
-      stands = stands g.W.Out.StageOut c.value.result.now.core c.give_back.new.self _ _ _ c.give_back.ensures.after (search rules) c.stays_open.ensures.«open»;
+      stands = stands g.W.Out.StageOut c.value.result.now.core.state c.give_back.new.self.state _ _ _ c.give_back.ensures.after (search rules) c.stays_open.ensures.«open»;
     })

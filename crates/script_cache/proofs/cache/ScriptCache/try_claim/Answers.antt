@@ -9,19 +9,24 @@ use Rattle.script_cache.proofs.cache.ScriptCache.try_claim.Goals as goal
 
 pub returns-in-Ok-found-clause-claimed : goal.returns-in-Ok-found-clause-claimed
 returns-in-Ok-found-clause-claimed g c = record {
-  before = c.value.result.now.core;
+  found = c.value.result.now.core.state;
   ready = search rules;
   entry = record {
+    turns = search rules;
+    found_log = search rules;
+    found_tasks = search rules;
     its_project = search rules;
-    seen = search rules;
+    begins = search rules;
     log = search rules;
     in_progress = search rules;
+    lost = search rules;
     splits = search rules;
+    earlier = search rules;
   };
 }
 
 pub returns-in-Ok-found-clause-logged : goal.returns-in-Ok-found-clause-logged
-returns-in-Ok-found-clause-logged g c = claim_logged c.value.result.now.core _ _ _ (search rules)
+returns-in-Ok-found-clause-logged g c = claim_logged c.value.result.now.core.state _ _ _ (search rules)
 
 pub returns-in-Ok-found-clause-job : goal.returns-in-Ok-found-clause-job
 returns-in-Ok-found-clause-job g c = record { its_project = search rules; seen = begins_same _ _ (search rules) }
@@ -32,14 +37,19 @@ returns-in-Err-clause-all_done g c e =
     let is : c.claim_job-found.result ≡ Err AllDone = c.in-Err.is ∙ ap Err (claim_error_tells _ _ same) in
     let d = c.claim_job-found.ensures.all_done is in
     record {
-      before = c.value.result.now.core;
+      found = c.value.result.now.core.state;
       all_done = d.0;
       entry = record {
+        turns = search rules;
+        found_log = search rules;
+        found_tasks = search rules;
         its_project = search rules;
-        seen = search rules;
+        begins = search rules;
         log = search rules;
         in_progress = search rules;
+        lost = search rules;
         splits = search rules;
+        earlier = search rules;
       };
     }
 
@@ -49,15 +59,20 @@ returns-in-Err-clause-nothing_ready g c e =
     let is : c.claim_job-found.result ≡ Err NothingReady = c.in-Err.is ∙ ap Err (claim_error_tells _ _ same) in
     let d = c.claim_job-found.ensures.nothing_ready is in
     record {
-      before = c.value.result.now.core;
+      found = c.value.result.now.core.state;
       none_ready = d.0;
       unfinished = d.1;
       entry = record {
+        turns = search rules;
+        found_log = search rules;
+        found_tasks = search rules;
         its_project = search rules;
-        seen = search rules;
+        begins = search rules;
         log = search rules;
         in_progress = search rules;
+        lost = search rules;
         splits = search rules;
+        earlier = search rules;
       };
     }
 
@@ -70,18 +85,23 @@ returns-in-Err-clause-no_memory g c e =
       file = d.0;
       stage = d.1;
       claimed = record {
-        before = c.value.result.now.core;
+        found = c.value.result.now.core.state;
         ready = d.2;
         entry = record {
+          turns = search rules;
+          found_log = search rules;
+          found_tasks = search rules;
           its_project = search rules;
-          seen = search rules;
+          begins = search rules;
           log = search rules;
           in_progress = search rules;
+          lost = search rules;
           splits = search rules;
+          earlier = search rules;
         };
       };
-      logged = given_back_logged g.W.Out.StageOut c.value.result.now.core c.claim_job-found.new.core _ d.0 d.1 d.3 (search rules);
-      in_progress = c.claim_job-found.new.core.in_progress;
+      logged = given_back_logged g.W.Out.StageOut c.value.result.now.core.state c.claim_job-found.new.core.state _ d.0 d.1 d.3 (search rules);
+      in_progress = c.claim_job-found.new.core.state.in_progress;
       left = search rules;
-      ready_again = subst (λ l. IsReady g.W.Out.StageOut l c.claim_job-found.new.core.in_progress d.0 d.1) (search rules) (ready_again g.W.Out.StageOut c.value.result.now.core c.claim_job-found.new.core d.0 d.1 d.3 d.2);
+      ready_again = subst (λ l. IsReady g.W.Out.StageOut l c.claim_job-found.new.core.state.in_progress d.0 d.1) (search rules) (ready_again g.W.Out.StageOut c.value.result.now.core.state c.claim_job-found.new.core.state d.0 d.1 d.3 d.2);
     }

@@ -7,14 +7,19 @@ returns-clause-requested g c = record {
   file = c.in-Some.file;
   at = search rules;
   made = record {
-    before = c.in-Ok.turn.value.core;
+    found = c.in-Ok.turn.value.core.state;
     entry = record {
+      turns = search rules;
+      found_log = search rules;
+      found_tasks = search rules;
       its_project = search rules;
-      seen = c.in-Ok.ensures.entered.seen;
+      begins = c.in-Ok.ensures.entered.seen;
       log = search rules;
       in_progress = search rules;
+      lost = search rules;
       splits = search rules;
+      earlier = search rules;
     };
   };
-  logged = request_logged c.in-Ok.turn.value.core _ c.in-Some.file (search rules);
+  logged = request_logged c.in-Ok.turn.value.core.state _ c.in-Some.file (search rules);
 }

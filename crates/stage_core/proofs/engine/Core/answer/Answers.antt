@@ -1,4 +1,4 @@
-use Rattle.std.proofs.Common.{◌≡◌, ◌∙◌, ◌<◌, ◌↔◌, ℕ, true, false, true≢false, Contains, filter, filter_map, map, sym, subst, subst₂}
+use Rattle.std.proofs.Common.{◌≡◌, ◌∙◌, ◌<◌, ◌↔◌, ℕ, true, false, true≢false, Contains, filter, filter_map, map, sym, subst, subst₂, ap}
 use Rattle.stage_core.specs.FileSets.{is_in, files_below}
 use Rattle.stage_core.specs.Load.{AreFaults, AreResults, InClosure, fault_entry, result_entry, result_value}
 use Rattle.stage_core.specs.Rows.{log_of}
@@ -23,7 +23,7 @@ add_reachable-requires-clause-in_range g c a b =
 pub add_reachable-requires-clause-visited : goal.add_reachable-requires-clause-visited
 add_reachable-requires-clause-visited g c =
     let i = c.self.inside in
-    let file : c.args.file < i.files = rw c.self.invariant.all_files (subst (λ s. c.args.file < g.O.StageOut.files s.project) (sym c.self.view_is) c.requires) in
+    let file : c.args.file < i.files = rw c.self.invariant.all_files (subst (λ s. c.args.file < g.O.StageOut.files s.project) (sym (ap (λ v. v.state) c.self.view_is)) c.requires) in
     rw c.add_file.ensures.after (with_file_set _ _ _ file (rw c.in_ok-visited.ensures.items (empty_file_set _)))
 
 pub returns-then-not-are_finished-clause-unfinished : goal.returns-then-not-are_finished-clause-unfinished
@@ -37,7 +37,7 @@ returns-then-not-are_finished-clause-unfinished g c e =
     (subst₂ (λ ls first. (b : ℕ) → Contains visited b ↔ ((a : ℕ) × Contains first a × Reaches (edges g.O.StageOut.links (log_of ls)) a b)) c.deref.ensures.value c.add_file.ensures.after c.add_reachable.ensures.reached) in
     let undone : ((b : ℕ) → Contains visited b → is_done_at (outcomes (log_of i.rows.items) b) 5 ≡ true) → ⊥ =
     λ all. true≢false (sym (c.are_finished.ensures.1 (rw (c.deref-2.ensures.value, c.deref-3.ensures.value) all)) ∙ c.if-not-are_finished.true) in
-    subst (λ s. (b : ℕ) × InClosure g.O.StageOut s.project c.args.file b × (is_done_at (outcomes s.log b) 5 ≡ false)) c.self.view_is
+    subst (λ s. (b : ℕ) × InClosure g.O.StageOut s.project c.args.file b × (is_done_at (outcomes s.log b) 5 ≡ false)) (ap (λ v. v.state) c.self.view_is)
     (unfinished g.O.StageOut laws more i.project.value (log_of i.rows.items) c.self.invariant.sound.legal c.args.file visited (λ b. (reached b).0) undone)
 
 pub returns-then-not-is_empty-clause-finished : goal.returns-then-not-is_empty-clause-finished
@@ -49,10 +49,10 @@ returns-then-not-is_empty-clause-finished g c =
     let reached : (b : ℕ) → Contains visited b ↔ Reaches (edges g.O.StageOut.links (log_of i.rows.items)) c.args.file b =
     from_one_file _ c.in_ok-visited.visited.items c.args.file visited c.in_ok-visited.ensures.items
     (subst₂ (λ ls first. (b : ℕ) → Contains visited b ↔ ((a : ℕ) × Contains first a × Reaches (edges g.O.StageOut.links (log_of ls)) a b)) c.deref.ensures.value c.add_file.ensures.after c.add_reachable.ensures.reached) in
-    let file : c.args.file < g.O.StageOut.files i.project.value = subst (λ s. c.args.file < g.O.StageOut.files s.project) (sym c.self.view_is) c.requires in
+    let file : c.args.file < g.O.StageOut.files i.project.value = subst (λ s. c.args.file < g.O.StageOut.files s.project) (sym (ap (λ v. v.state) c.self.view_is)) c.requires in
     let done : (b : ℕ) → Contains visited b → is_done_at (outcomes (log_of i.rows.items) b) 5 ≡ true =
     subst₂ (λ ls xs. (b : ℕ) → Contains xs b → is_done_at (outcomes (log_of ls) b) 5 ≡ true) c.deref-2.ensures.value c.deref-3.ensures.value (c.are_finished.ensures.0 c.if-not-are_finished.false) in
-    subst (λ s. (other : ℕ) → InClosure g.O.StageOut s.project c.args.file other → is_done_at (outcomes s.log other) 5 ≡ true) c.self.view_is
+    subst (λ s. (other : ℕ) → InClosure g.O.StageOut s.project c.args.file other → is_done_at (outcomes s.log other) 5 ≡ true) (ap (λ v. v.state) c.self.view_is)
     (finished g.O.StageOut laws more i.project.value (log_of i.rows.items) c.self.invariant.sound.legal c.args.file file visited reached done)
 
 pub returns-clause-finished : goal.returns-clause-finished
@@ -64,10 +64,10 @@ returns-clause-finished g c =
     let reached : (b : ℕ) → Contains visited b ↔ Reaches (edges g.O.StageOut.links (log_of i.rows.items)) c.args.file b =
     from_one_file _ c.in_ok-visited.visited.items c.args.file visited c.in_ok-visited.ensures.items
     (subst₂ (λ ls first. (b : ℕ) → Contains visited b ↔ ((a : ℕ) × Contains first a × Reaches (edges g.O.StageOut.links (log_of ls)) a b)) c.deref.ensures.value c.add_file.ensures.after c.add_reachable.ensures.reached) in
-    let file : c.args.file < g.O.StageOut.files i.project.value = subst (λ s. c.args.file < g.O.StageOut.files s.project) (sym c.self.view_is) c.requires in
+    let file : c.args.file < g.O.StageOut.files i.project.value = subst (λ s. c.args.file < g.O.StageOut.files s.project) (sym (ap (λ v. v.state) c.self.view_is)) c.requires in
     let done : (b : ℕ) → Contains visited b → is_done_at (outcomes (log_of i.rows.items) b) 5 ≡ true =
     subst₂ (λ ls xs. (b : ℕ) → Contains xs b → is_done_at (outcomes (log_of ls) b) 5 ≡ true) c.deref-2.ensures.value c.deref-3.ensures.value (c.are_finished.ensures.0 c.if-not-are_finished.false) in
-    subst (λ s. (other : ℕ) → InClosure g.O.StageOut s.project c.args.file other → is_done_at (outcomes s.log other) 5 ≡ true) c.self.view_is
+    subst (λ s. (other : ℕ) → InClosure g.O.StageOut s.project c.args.file other → is_done_at (outcomes s.log other) 5 ≡ true) (ap (λ v. v.state) c.self.view_is)
     (finished g.O.StageOut laws more i.project.value (log_of i.rows.items) c.self.invariant.sound.legal c.args.file file visited reached done)
 
 pub returns-then-not-is_empty-clause-load : goal.returns-then-not-is_empty-clause-load
@@ -79,14 +79,14 @@ returns-then-not-is_empty-clause-load g c =
     let reached : (b : ℕ) → Contains visited b ↔ Reaches (edges g.O.StageOut.links (log_of i.rows.items)) c.args.file b =
     from_one_file _ c.in_ok-visited.visited.items c.args.file visited c.in_ok-visited.ensures.items
     (subst₂ (λ ls first. (b : ℕ) → Contains visited b ↔ ((a : ℕ) × Contains first a × Reaches (edges g.O.StageOut.links (log_of ls)) a b)) c.deref.ensures.value c.add_file.ensures.after c.add_reachable.ensures.reached) in
-    let file : c.args.file < g.O.StageOut.files i.project.value = subst (λ s. c.args.file < g.O.StageOut.files s.project) (sym c.self.view_is) c.requires in
+    let file : c.args.file < g.O.StageOut.files i.project.value = subst (λ s. c.args.file < g.O.StageOut.files s.project) (sym (ap (λ v. v.state) c.self.view_is)) c.requires in
     let done : (b : ℕ) → Contains visited b → is_done_at (outcomes (log_of i.rows.items) b) 5 ≡ true =
     subst₂ (λ ls xs. (b : ℕ) → Contains xs b → is_done_at (outcomes (log_of ls) b) 5 ≡ true) c.deref-2.ensures.value c.deref-3.ensures.value (c.are_finished.ensures.0 c.if-not-are_finished.false) in
     let members : c.in_ok-closure.closure.items ≡ filter (λ f. is_in f visited) (files_below (g.O.StageOut.files i.project.value)) =
     subst₂ (λ n xs. c.in_ok-closure.closure.items ≡ filter (λ f. is_in f xs) (files_below n)) c.self.invariant.all_files c.deref-4.ensures.value c.in_ok-closure.ensures in
     let faults : c.in_ok-faults.faults.items ≡ filter_map (fault_entry (log_of i.rows.items)) (filter (λ f. is_in f visited) (files_below (g.O.StageOut.files i.project.value))) =
     rw (c.deref-5.ensures.value, c.deref-6.ensures.value, members) at c.in_ok-faults.ensures in
-    subst₂ (λ s xs. AreFaults g.O.StageOut s.project c.args.file xs) c.self.view_is (sym faults)
+    subst₂ (λ s xs. AreFaults g.O.StageOut s.project c.args.file xs) (ap (λ v. v.state) c.self.view_is) (sym faults)
     (are_faults g.O.StageOut laws more i.project.value (log_of i.rows.items) c.self.invariant.sound.legal c.args.file file visited reached done (λ e. not_empty _ _ c.is_empty.result c.in_ok-faults.faults.ok.0 c.is_empty.ensures c.if-not-is_empty.true (faults ∙ e)))
 
 pub returns-clause-load : goal.returns-clause-load
@@ -98,7 +98,7 @@ returns-clause-load g c =
     let reached : (b : ℕ) → Contains visited b ↔ Reaches (edges g.O.StageOut.links (log_of i.rows.items)) c.args.file b =
     from_one_file _ c.in_ok-visited.visited.items c.args.file visited c.in_ok-visited.ensures.items
     (subst₂ (λ ls first. (b : ℕ) → Contains visited b ↔ ((a : ℕ) × Contains first a × Reaches (edges g.O.StageOut.links (log_of ls)) a b)) c.deref.ensures.value c.add_file.ensures.after c.add_reachable.ensures.reached) in
-    let file : c.args.file < g.O.StageOut.files i.project.value = subst (λ s. c.args.file < g.O.StageOut.files s.project) (sym c.self.view_is) c.requires in
+    let file : c.args.file < g.O.StageOut.files i.project.value = subst (λ s. c.args.file < g.O.StageOut.files s.project) (sym (ap (λ v. v.state) c.self.view_is)) c.requires in
     let done : (b : ℕ) → Contains visited b → is_done_at (outcomes (log_of i.rows.items) b) 5 ≡ true =
     subst₂ (λ ls xs. (b : ℕ) → Contains xs b → is_done_at (outcomes (log_of ls) b) 5 ≡ true) c.deref-2.ensures.value c.deref-3.ensures.value (c.are_finished.ensures.0 c.if-not-are_finished.false) in
     let members : c.in_ok-closure.closure.items ≡ filter (λ f. is_in f visited) (files_below (g.O.StageOut.files i.project.value)) =
@@ -107,5 +107,5 @@ returns-clause-load g c =
     rw (c.deref-5.ensures.value, c.deref-6.ensures.value, members) at c.in_ok-faults.ensures in
     let results : map result_value c.in_ok-results.results.items ≡ filter_map (result_entry (log_of i.rows.items)) (filter (λ f. is_in f visited) (files_below (g.O.StageOut.files i.project.value))) =
     rw (c.deref-7.ensures.value, c.deref-8.ensures.value, members) at c.in_ok-results.ensures in
-    subst₂ (λ s xs. AreResults g.O.StageOut s.project c.args.file xs) c.self.view_is (sym results)
+    subst₂ (λ s xs. AreResults g.O.StageOut s.project c.args.file xs) (ap (λ v. v.state) c.self.view_is) (sym results)
     (are_results g.O.StageOut laws more i.project.value (log_of i.rows.items) c.self.invariant.sound.legal c.args.file file visited reached done (sym faults ∙ nil_by_test _ _ c.is_empty.result c.in_ok-faults.faults.ok.0 c.is_empty.ensures c.if-not-is_empty.false))

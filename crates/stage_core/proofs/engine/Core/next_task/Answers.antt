@@ -58,8 +58,8 @@ returns-in-Some-clause-nothing_ready g c =
     let i = c.self.inside in
     let log = log_of i.rows.items in
     let known = c.find_known.new.known.items in
-    let is : c.args.self.now.log ≡ log = sym (ap (λ s. s.log) c.self.view_is) in
-    let held : c.args.self.now.in_progress ≡ i.in_progress.items = sym (ap (λ s. s.in_progress) c.self.view_is) in
+    let is : c.args.self.now.state.log ≡ log = sym (ap (λ s. s.log) (ap (λ v. v.state) c.self.view_is)) in
+    let held : c.args.self.now.state.in_progress ≡ i.in_progress.items = sym (ap (λ s. s.in_progress) (ap (λ v. v.state) c.self.view_is)) in
     let all : (file : ℕ) → Contains known file ↔ IsKnown g.O.StageOut log file = subst (λ ls. (file : ℕ) → Contains known file ↔ IsKnown g.O.StageOut (log_of ls) file) c.deref.ensures.value c.find_known.ensures.known in
     let ready : IsReady g.O.StageOut log i.in_progress.items c.in-Some.task.0 c.in-Some.task.1 = subst₂ (λ ls us. IsReady g.O.StageOut (log_of ls) us c.in-Some.task.0 c.in-Some.task.1) c.deref-2.ensures.value c.deref-3.ensures.value c.in-Some.ensures.some in
     (λ e. cc, λ n. absurd (n.0 c.in-Some.task.0 c.in-Some.task.1 (rw (is, held) ready)))
@@ -69,48 +69,48 @@ returns-then-are_finished-clause-all_done g c =
     let i = c.self.inside in
     let log = log_of i.rows.items in
     let known = c.find_known.new.known.items in
-    let is : c.args.self.now.log ≡ log = sym (ap (λ s. s.log) c.self.view_is) in
-    let held : c.args.self.now.in_progress ≡ i.in_progress.items = sym (ap (λ s. s.in_progress) c.self.view_is) in
+    let is : c.args.self.now.state.log ≡ log = sym (ap (λ s. s.log) (ap (λ v. v.state) c.self.view_is)) in
+    let held : c.args.self.now.state.in_progress ≡ i.in_progress.items = sym (ap (λ s. s.in_progress) (ap (λ v. v.state) c.self.view_is)) in
     let all : (file : ℕ) → Contains known file ↔ IsKnown g.O.StageOut log file = subst (λ ls. (file : ℕ) → Contains known file ↔ IsKnown g.O.StageOut (log_of ls) file) c.deref.ensures.value c.find_known.ensures.known in
     let done : IsTrue c.are_finished.result ↔ ((file : ℕ) → Contains known file → is_done_at (outcomes log file) 5 ≡ true) =
     subst₂ (λ ls ks. IsTrue c.are_finished.result ↔ ((file : ℕ) → Contains ks file → is_done_at (outcomes (log_of ls) file) 5 ≡ true)) c.deref-5.ensures.value c.deref-6.ensures.value c.are_finished.ensures in
-    (λ e. (finished g.O.StageOut log i.in_progress.items known c.args.self.now is held all).0 (done.0 c.if-are_finished.true), λ _. refl)
+    (λ e. (finished g.O.StageOut log i.in_progress.items known c.args.self.now.state is held all).0 (done.0 c.if-are_finished.true), λ _. refl)
 
 pub returns-clause-all_done : goal.returns-clause-all_done
 returns-clause-all_done g c =
     let i = c.self.inside in
     let log = log_of i.rows.items in
     let known = c.find_known.new.known.items in
-    let is : c.args.self.now.log ≡ log = sym (ap (λ s. s.log) c.self.view_is) in
-    let held : c.args.self.now.in_progress ≡ i.in_progress.items = sym (ap (λ s. s.in_progress) c.self.view_is) in
+    let is : c.args.self.now.state.log ≡ log = sym (ap (λ s. s.log) (ap (λ v. v.state) c.self.view_is)) in
+    let held : c.args.self.now.state.in_progress ≡ i.in_progress.items = sym (ap (λ s. s.in_progress) (ap (λ v. v.state) c.self.view_is)) in
     let all : (file : ℕ) → Contains known file ↔ IsKnown g.O.StageOut log file = subst (λ ls. (file : ℕ) → Contains known file ↔ IsKnown g.O.StageOut (log_of ls) file) c.deref.ensures.value c.find_known.ensures.known in
     let done : IsTrue c.are_finished.result ↔ ((file : ℕ) → Contains known file → is_done_at (outcomes log file) 5 ≡ true) =
     subst₂ (λ ls ks. IsTrue c.are_finished.result ↔ ((file : ℕ) → Contains ks file → is_done_at (outcomes (log_of ls) file) 5 ≡ true)) c.deref-5.ensures.value c.deref-6.ensures.value c.are_finished.ensures in
-    (λ e. cc, λ f. absurd (true≢false (sym (done.1 ((finished g.O.StageOut log i.in_progress.items known c.args.self.now is held all).1 f)) ∙ c.if-are_finished.false)))
+    (λ e. cc, λ f. absurd (true≢false (sym (done.1 ((finished g.O.StageOut log i.in_progress.items known c.args.self.now.state is held all).1 f)) ∙ c.if-are_finished.false)))
 
 pub returns-clause-nothing_ready : goal.returns-clause-nothing_ready
 returns-clause-nothing_ready g c =
     let i = c.self.inside in
     let log = log_of i.rows.items in
     let known = c.find_known.new.known.items in
-    let is : c.args.self.now.log ≡ log = sym (ap (λ s. s.log) c.self.view_is) in
-    let held : c.args.self.now.in_progress ≡ i.in_progress.items = sym (ap (λ s. s.in_progress) c.self.view_is) in
+    let is : c.args.self.now.state.log ≡ log = sym (ap (λ s. s.log) (ap (λ v. v.state) c.self.view_is)) in
+    let held : c.args.self.now.state.in_progress ≡ i.in_progress.items = sym (ap (λ s. s.in_progress) (ap (λ v. v.state) c.self.view_is)) in
     let all : (file : ℕ) → Contains known file ↔ IsKnown g.O.StageOut log file = subst (λ ls. (file : ℕ) → Contains known file ↔ IsKnown g.O.StageOut (log_of ls) file) c.deref.ensures.value c.find_known.ensures.known in
     let none : (file stage : ℕ) → Contains known file → IsReady g.O.StageOut log i.in_progress.items file stage → ⊥ =
     λ file stage there ready. c.in_default.ensures.none file stage (rw c.deref-4.ensures.value there) (rw (c.deref-2.ensures.value, c.deref-3.ensures.value) ready) in
-    (λ e. (none_ready g.O.StageOut log i.in_progress.items known c.args.self.now is held all none, λ x. cc), λ _. refl)
+    (λ e. (none_ready g.O.StageOut log i.in_progress.items known c.args.self.now.state is held all none, λ x. cc), λ _. refl)
 
 pub returns-clause-busy : goal.returns-clause-busy
 returns-clause-busy g c e =
     let i = c.self.inside in
     let log = log_of i.rows.items in
     let known = c.find_known.new.known.items in
-    let is : c.args.self.now.log ≡ log = sym (ap (λ s. s.log) c.self.view_is) in
-    let held : c.args.self.now.in_progress ≡ i.in_progress.items = sym (ap (λ s. s.in_progress) c.self.view_is) in
+    let is : c.args.self.now.state.log ≡ log = sym (ap (λ s. s.log) (ap (λ v. v.state) c.self.view_is)) in
+    let held : c.args.self.now.state.in_progress ≡ i.in_progress.items = sym (ap (λ s. s.in_progress) (ap (λ v. v.state) c.self.view_is)) in
     let all : (file : ℕ) → Contains known file ↔ IsKnown g.O.StageOut log file = subst (λ ls. (file : ℕ) → Contains known file ↔ IsKnown g.O.StageOut (log_of ls) file) c.deref.ensures.value c.find_known.ensures.known in
     let laws : Laws g.O.StageOut = record { links_of_value = g.met.O.StageOut.links_of_value; walk_of_value = g.met.O.StageOut.walk_of_value; links_in_range = g.met.O.StageOut.links_in_range; walk_in_range = g.met.O.StageOut.walk_in_range; walk_within_links = g.met.O.StageOut.walk_within_links } in
     let none : (file stage : ℕ) → Contains known file → IsReady g.O.StageOut log i.in_progress.items file stage → ⊥ =
     λ file stage there ready. c.in_default.ensures.none file stage (rw c.deref-4.ensures.value there) (rw (c.deref-2.ensures.value, c.deref-3.ensures.value) ready) in
     let done : IsTrue c.are_finished.result ↔ ((file : ℕ) → Contains known file → is_done_at (outcomes log file) 5 ≡ true) =
     subst₂ (λ ls ks. IsTrue c.are_finished.result ↔ ((file : ℕ) → Contains ks file → is_done_at (outcomes (log_of ls) file) 5 ≡ true)) c.deref-5.ensures.value c.deref-6.ensures.value c.are_finished.ensures in
-    busy g.O.StageOut log i.in_progress.items known c.args.self.now is held all none (λ f. true≢false (sym (done.1 f) ∙ c.if-are_finished.false)) (work g.O.StageOut laws i.project.value i.rows.items i.in_progress.items i.files _ _ _ c.self.invariant)
+    busy g.O.StageOut log i.in_progress.items known c.args.self.now.state is held all none (λ f. true≢false (sym (done.1 f) ∙ c.if-are_finished.false)) (work g.O.StageOut laws i.project.value i.rows.items i.in_progress.items i.files _ _ _ c.self.invariant)

@@ -10,7 +10,7 @@ use Rattle.string_calls.proofs.formats.Draft.take_directive.Goals as goal
 
 pub returns-then-begins_with-clause-step : goal.returns-then-begins_with-clause-step
 returns-then-begins_with-clause-step c =
-    (_, (_, (percent_twice (formatted_value c.args.heap.now.cells c.args.names.now) c.args.after.now c.args.left.now (sym c.if-begins_with.ensures), c.in_ok-add.ensures)))
+    (_, (_, (percent_twice (formatted_value c.args.heap.now.state.cells c.args.names.now) c.args.after.now c.args.left.now (sym c.if-begins_with.ensures), c.in_ok-add.ensures)))
 
 pub returns-then-begins_with-clause-bounds : goal.returns-then-begins_with-clause-bounds
 returns-then-begins_with-clause-bounds c =
@@ -19,7 +19,7 @@ returns-then-begins_with-clause-bounds c =
 
 pub returns-clause-step : goal.returns-clause-step
 returns-clause-step c =
-    let value : Directive → Value → Formatted = formatted_value c.args.heap.now.cells c.args.names.now in
+    let value : Directive → Value → Formatted = formatted_value c.args.heap.now.state.cells c.args.names.now in
     let added = subst (λ b. Fills c.args.self.now c.add_value.new.self b (value (directive_of c.in-Some.d) c.v-item.result)) c.if-not-branch.false c.in_ok-add_value.ensures in
     let is = ap directive_at (sym c.as_bytes.ensures.value) ∙ sym c.in-Some.ensures.parts in
     let left : List Value = c.args.left.now in

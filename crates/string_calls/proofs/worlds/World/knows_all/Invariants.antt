@@ -4,4 +4,4 @@ use Rattle.variant_values.specs.Heaps.{knows}
 use Rattle.string_calls.proofs.worlds.World.knows_all.Given as goal
 
 abbrev pub invariant-loop-v : goal.invariant-loop-v
-invariant-loop-v l = (k : ℕ) (d : Value) → k < l.v-index → k < length l.values → knows l.self.heap.cells (get_or l.values k d) ≡ true
+invariant-loop-v l = (k : ℕ) (d : Value) → k < l.v-index → k < length l.values → knows l.self.heap.state.cells (get_or l.values k d) ≡ true

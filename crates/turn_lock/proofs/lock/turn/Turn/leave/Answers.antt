@@ -42,3 +42,8 @@ returns-clause-splits g c = ap (λ m. m.0.splits) (left g.T.Told.log g.T.Told.st
 
 pub returns-clause-lost : goal.returns-clause-lost
 returns-clause-lost g c = ap (λ m. m.0.lost) (left g.T.Told.log g.T.Told.state c.args.self.value _ _ _ _ c.requires.turn.slot c.exchange-empty.ensures.3 c.store.ensures.2 c.store-2.ensures.2)
+
+pub returns-clause-turns : goal.returns-clause-turns
+returns-clause-turns g c =
+    let out = left g.T.Told.log g.T.Told.state c.args.self.value _ _ _ _ c.requires.turn.slot c.exchange-empty.ensures.3 c.store.ensures.2 c.store-2.ensures.2 in
+    record { found_log = ap (λ m. m.0.found_log) out; found_state = ap (λ m. m.0.found_state) out; turns = ap (λ m. m.0.turns) out; earlier = ap (λ m. m.0.earlier) out }

@@ -1,6 +1,0 @@
-use Rattle.unicode_ident.specs.Ident.{is_xid_continue}
-use Rattle.gd_tokens.proofs.Longest.{longest_run}
-use Rattle.gd_tokens.proofs.laws.longest_word.Goals as goal
-
-pub returns : goal.returns
-returns c = longest_run is_xid_continue c.args.text.now

@@ -1,0 +1,3 @@
+pub mod PatternLevels
+pub mod Limits
+pub mod ClassNames

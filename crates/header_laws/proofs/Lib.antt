@@ -1,0 +1,8 @@
+mod Clear
+mod ClearExprs
+mod ClearStatements
+mod ClearScripts
+mod CutNames
+mod LaidTokens
+mod LinesOfPieces
+mod HeadersOfTrees

@@ -1,0 +1,3 @@
+pub mod FaultOrder
+pub mod Laws
+pub mod HeaderNames

@@ -1,0 +1,10 @@
+use denote.Exit.{yes}
+use denote.Param.Send.{param_send, param_sync, arg_send, arg_sync}
+use Rattle.variant_values.proofs.Crossing.{value_send, value_sync}
+use Rattle.variant_values.proofs.thread_safety.cross_threads.Goals as goal
+
+pub crosses-requires-send-T : goal.crosses-requires-send-T
+crosses-requires-send-T c κs = param_send 0 _ (arg_send _ yes _ value_send)
+
+pub crosses-requires-sync-T : goal.crosses-requires-sync-T
+crosses-requires-sync-T c κs = param_sync 0 _ (arg_sync _ yes _ value_sync)
