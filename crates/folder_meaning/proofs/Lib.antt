@@ -1,2 +1,4 @@
 pub mod Readings
 pub mod Unfailed
+mod Adding
+pub mod Crossing

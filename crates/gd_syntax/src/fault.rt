@@ -38,13 +38,77 @@ pub enum FaultKind {
     NestTooDeep,
     /// A class, a member or a parameter is one too many.
     TooMany,
-    /// A form of the language that is not taken.
+    /// A scene or the project file has another form than its heading, property or line may have.
+    SceneSyntax,
+    /// A form of the language, or of a scene, that is not taken.
     Unsupported(Form),
+    /// A base, `preload` or `load` names a file that the project lacks.
+    NoSuchFile,
+    /// No class has the name of a base.
+    NoSuchClass,
+    /// A base is no class of a script.
+    NotAClass,
+    /// Two files have the global name, or it is that of a native class or of a type.
+    GlobalNameTaken,
+    /// A class is reached from itself through bases.
+    CyclicInheritance,
+    /// A scene is reached from itself through instances.
+    CyclicScene,
+    /// A path or an id of a scene that is not there, or is not of its type.
+    NoSuchResource,
+    /// A class declares a name twice.
+    DuplicateMember,
+    /// A name is that of a member of an ancestor, and not a function over a function.
+    HidesMember,
+    /// A type names none.
+    UnknownType,
+    /// A constant names itself through constants.
+    CyclicConstant,
+    /// An expression that has to be constant is none.
+    NotConstant,
+    /// An operator or a dictionary of a constant expression faults.
+    ConstantFault,
+    /// A type that is inferred needs itself.
+    CyclicInference,
+    /// A function does not fit the one that it overrides.
+    SignatureMismatch,
+    /// Two siblings have one name.
+    DuplicateNode,
+    /// No node has the path of a parent or of a connection.
+    NoSuchNode,
+    /// A name means nothing.
+    UnknownName,
+    /// A value, or an operator's operand, is of a type that does not fit.
+    TypeClash,
+    /// A call has a wrong number or kind of arguments, or calls what is no function.
+    BadCall,
+    /// A type has no method of the name.
+    NoMethod,
+    /// A call without a value stands as one.
+    VoidValue,
+    /// A function with a type may end without a value.
+    MissingReturn,
+    /// `break` or `continue` stands outside loops.
+    LoopWord,
+    /// The target of an assignment is no variable.
+    AssignToConst,
+    /// A local has a name that stands in an open block.
+    DuplicateLocal,
+    /// A static function names what belongs to an object.
+    SelfInStatic,
+    /// A node of a scene has a property that it cannot take.
+    BadProperty,
+    /// A connection names a signal that its node lacks.
+    NoSuchSignal,
+    /// A connection names a method that its node lacks.
+    NoSuchMethod,
+    /// A function needs more registers than there are.
+    TooManyRegisters,
     /// A form of the language that is not built yet.
     Unbuilt,
 }
 
-/// A form of the language that scripts may not have.
+/// A form of the language that scripts may not have, or one that scenes may not have.
 #[derive(Clone, Copy, Debug, PartialEq, Eq)]
 pub enum Form {
     Float,
@@ -67,6 +131,12 @@ pub enum Form {
     UidPath,
     ComputedLoad,
     EnumValue,
+    ResourceType,
+    InheritedScene,
+    EditableChildren,
+    NodeType,
+    ConnectionOption,
+    SubResource,
 }
 
 impl FaultKind {
@@ -87,7 +157,39 @@ impl FaultKind {
             FaultKind::Syntax => "Syntax",
             FaultKind::NestTooDeep => "NestTooDeep",
             FaultKind::TooMany => "TooMany",
+            FaultKind::SceneSyntax => "SceneSyntax",
             FaultKind::Unsupported(form) => form.as_str(),
+            FaultKind::NoSuchFile => "NoSuchFile",
+            FaultKind::NoSuchClass => "NoSuchClass",
+            FaultKind::NotAClass => "NotAClass",
+            FaultKind::GlobalNameTaken => "GlobalNameTaken",
+            FaultKind::CyclicInheritance => "CyclicInheritance",
+            FaultKind::CyclicScene => "CyclicScene",
+            FaultKind::NoSuchResource => "NoSuchResource",
+            FaultKind::DuplicateMember => "DuplicateMember",
+            FaultKind::HidesMember => "HidesMember",
+            FaultKind::UnknownType => "UnknownType",
+            FaultKind::CyclicConstant => "CyclicConstant",
+            FaultKind::NotConstant => "NotConstant",
+            FaultKind::ConstantFault => "ConstantFault",
+            FaultKind::CyclicInference => "CyclicInference",
+            FaultKind::SignatureMismatch => "SignatureMismatch",
+            FaultKind::DuplicateNode => "DuplicateNode",
+            FaultKind::NoSuchNode => "NoSuchNode",
+            FaultKind::UnknownName => "UnknownName",
+            FaultKind::TypeClash => "TypeClash",
+            FaultKind::BadCall => "BadCall",
+            FaultKind::NoMethod => "NoMethod",
+            FaultKind::VoidValue => "VoidValue",
+            FaultKind::MissingReturn => "MissingReturn",
+            FaultKind::LoopWord => "LoopWord",
+            FaultKind::AssignToConst => "AssignToConst",
+            FaultKind::DuplicateLocal => "DuplicateLocal",
+            FaultKind::SelfInStatic => "SelfInStatic",
+            FaultKind::BadProperty => "BadProperty",
+            FaultKind::NoSuchSignal => "NoSuchSignal",
+            FaultKind::NoSuchMethod => "NoSuchMethod",
+            FaultKind::TooManyRegisters => "TooManyRegisters",
             FaultKind::Unbuilt => "Unbuilt",
         }
     }
@@ -121,6 +223,12 @@ impl Form {
             Form::UidPath => "Unsupported(uid path)",
             Form::ComputedLoad => "Unsupported(computed load)",
             Form::EnumValue => "Unsupported(enum value)",
+            Form::ResourceType => "Unsupported(resource type)",
+            Form::InheritedScene => "Unsupported(inherited scene)",
+            Form::EditableChildren => "Unsupported(editable children)",
+            Form::NodeType => "Unsupported(node type)",
+            Form::ConnectionOption => "Unsupported(connection option)",
+            Form::SubResource => "Unsupported(sub resource)",
         }
     }
 }

@@ -1,12 +1,10 @@
 -- Values that name no cell are known in every heap.
-use Rattle.std.proofs.Common.{◌≡◌, ℕ, ℤ, pos, Bool, true, false, ◌&&◌, List, [], ◌∷◌, ◌++◌, length, slice_index_or, map, refl, ap, subst, Option, Some, None, Result, Ok, Err, IfOk, if◌then◌else◌}
+use Rattle.std.proofs.Common.{◌≡◌, ℕ, ℤ, pos, Bool, true, false, List, [], ◌∷◌, ◌++◌, length, slice_index_or, map, refl, ap, subst, Option, Some, None, Result, Ok, Err, IfOk, if◌then◌else◌}
 use Rattle.std.proofs.lemmas.Bool.{false≢true}
-use Rattle.std.proofs.lemmas.List.Elements.{All-nil, All-cons}
-use Rattle.std.specs.List.{list_all}
 use Rattle.variant_values.specs.declared.values.Value.{Value}
 use Rattle.variant_values.specs.declared.values.Value.TheVariants.{Null, Bool as Truth, Int, Str, Array, Dict, Object, Callable, Signal, Class, Scene, Weak}
 use Rattle.variant_values.specs.declared.cells.Cell.{Cell}
-use Rattle.variant_values.specs.Heaps.{Heap, knows, is_array, KnowsAll}
+use Rattle.variant_values.specs.Heaps.{Heap, knows, is_array}
 use Rattle.variant_values.specs.declared.cells.Cell.TheVariants.{Array as ArrayCell}
 use Rattle.variant_values.specs.declared.faults.RunFault.{RunFault}
 use Rattle.variant_values.specs.declared.faults.RunFault.TheVariants.{BadArgs, BadIndex}
@@ -31,18 +29,6 @@ knows_plain cells (Signal s m) h = absurd (false≢true h)
 knows_plain cells (Class c) h = absurd (false≢true h)
 knows_plain cells (Scene f p) h = absurd (false≢true h)
 knows_plain cells (Weak s) h = absurd (false≢true h)
-
-and_left : (a b : Bool) → a && b ≡ true → a ≡ true
-and_left true b h = refl
-and_left false b h = h
-
-and_right : (a b : Bool) → a && b ≡ true → b ≡ true
-and_right true b h = h
-and_right false b h = absurd (false≢true h)
-
-pub knows_all_plain : (cells : List (Option Cell)) (vs : List Value) → list_all is_plain vs ≡ true → KnowsAll cells vs
-knows_all_plain cells [] h = All-nil (λ v. knows cells v ≡ true)
-knows_all_plain cells (v ∷ vs) h = All-cons (λ w. knows cells w ≡ true) v vs (knows_plain cells v (and_left _ _ h)) (knows_all_plain cells vs (and_right _ _ h))
 
 -- ---- what the methods give
 

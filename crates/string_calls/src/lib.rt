@@ -5,23 +5,15 @@ mod builders;
 pub mod calls;
 mod directives;
 mod edges;
-#[cfg(test)]
-mod format_tests;
 pub mod formats;
 mod joins;
 mod laws;
-#[cfg(test)]
-mod limit_tests;
 mod methods;
 mod pieces;
 mod searches;
 #[cfg(test)]
 mod tests;
-#[cfg(test)]
-mod text_tests;
 pub mod texts;
-#[cfg(test)]
-mod worlds;
 
 pub use calls::string_call;
 pub use formats::format_text;

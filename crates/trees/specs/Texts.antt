@@ -1,4 +1,4 @@
--- What is printed of places, faults and operators, and the exit statuses.
+-- What is printed of places, faults and operators.
 use Rattle.std.specs.Prelude.{ℕ, List, ◌++◌, codes}
 use Rattle.std.specs.Fmt.{decimal}
 use Rattle.gd_syntax.specs.declared.fault.LoadFault.{LoadFault}
@@ -10,8 +10,6 @@ use Rattle.gd_syntax.specs.declared.tree.expr.TreePrefix.{TreePrefix}
 use Rattle.gd_syntax.specs.declared.tree.expr.TreePrefix.TheVariants as prefix
 use Rattle.gd_syntax.specs.declared.tree.statement.AssignOp.{AssignOp}
 use Rattle.gd_syntax.specs.declared.tree.statement.AssignOp.TheVariants as assign
-use Rattle.trees.specs.declared.stop.Stop.{Stop}
-use Rattle.trees.specs.declared.stop.Stop.TheVariants as stop
 
 abbrev pub place_text : Place → List ℕ
 place_text place = decimal place.line ++ codes ":" ++ decimal place.column
@@ -60,9 +58,3 @@ assign_text assign.BitOr = codes " |= "
 assign_text assign.BitXor = codes " ^= "
 assign_text assign.Shl = codes " <<= "
 assign_text assign.Shr = codes " >>= "
-
-abbrev pub number_of_stop : Stop → ℕ
-number_of_stop stop.BadCase = 2
-number_of_stop stop.Unreadable = 5
-number_of_stop stop.Unwritten = 6
-number_of_stop stop.NoMemory = 7

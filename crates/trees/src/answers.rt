@@ -3,13 +3,12 @@ ghost use Rattle.std.specs.Prelude.{◌≤◌, length};
 ghost use Rattle.gd_syntax.specs.TokenReading.{IsEnded};
 
 use crate::cases::{Case, Detail, Kind};
-use crate::escapes::{bytes_of, push_quoted};
 use crate::fronts::front_kinds;
 use crate::members::put_script;
 use crate::part::{Part, put};
 use crate::places::{fault_text, place_text, push_place};
 use crate::show::text_of;
-use crate::stop::Stop;
+use case_files::{Stop, bytes_of, push_quoted};
 use gd_exprs::{MAX_LEVELS, expression, result_type, type_name};
 use gd_header::{header, header_end};
 use gd_parser::parse;

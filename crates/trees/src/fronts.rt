@@ -1,7 +1,7 @@
 // The fronts of a text.
 ghost use Rattle.std.specs.Prelude.{◌≤◌, length};
 
-use crate::stop::Stop;
+use case_files::Stop;
 use gd_header::header_end;
 use gd_parser::parse;
 use gd_syntax::SolveError;

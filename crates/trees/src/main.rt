@@ -20,7 +20,6 @@
 
 mod answers;
 mod cases;
-mod escapes;
 mod expressions;
 mod fronts;
 mod members;
@@ -31,33 +30,14 @@ mod places;
 mod scripts;
 mod show;
 mod statements;
-mod stop;
 
 use crate::answers::answer;
 use crate::cases::case_of;
 use crate::scripts::file_lines;
-use crate::stop::Stop;
-use std::io::ErrorKind;
+use case_files::{Stop, print_answer, print_line, read_text};
+use std::env;
 use std::process::ExitCode;
 use std::rt::{Env, Files};
-use std::{env, fs, io};
-
-fn unreadable(error: io::Error) -> Stop {
-    if error.kind() == ErrorKind::OutOfMemory {
-        Stop::NoMemory
-    } else {
-        Stop::Unreadable
-    }
-}
-
-fn print_line(rt: &impl Print, line: &str) -> Result<(), Stop> {
-    rt.println(line).map_err(|_| Stop::Unwritten)
-}
-
-fn print_answer(rt: &impl Print, answer: &str) -> Result<(), Stop> {
-    rt.print("    ").map_err(|_| Stop::Unwritten)?;
-    print_line(rt, answer)
-}
 
 /// Prints a line of a case file, and below a case what its text is read as.
 fn run_line<R: Print + AllocGlobal>(rt: &R, line: &str) -> Result<(), Stop> {
@@ -81,7 +61,7 @@ fn run_script<R: Print + AllocGlobal>(rt: &R, name: &str, text: &[u8]) -> Result
 
 /// Prints a script, or a file of cases.
 fn run_file<R: Print + Files + AllocGlobal>(rt: &R, name: &str) -> Result<(), Stop> {
-    let text = fs::read_to_string(rt, name).map_err(unreadable)?;
+    let text = read_text(rt, name)?;
     if name.ends_with(".gd") {
         return run_script(rt, name, text.as_bytes());
     }
@@ -93,7 +73,7 @@ fn run_file<R: Print + Files + AllocGlobal>(rt: &R, name: &str) -> Result<(), St
 
 /// Prints the files that the words name.
 fn run<R: Env + Files + Print + AllocGlobal>(rt: &R) -> Result<(), Stop> {
-    for name in env::args(rt).map_err(unreadable)?.skip(1) {
+    for name in env::args(rt)?.skip(1) {
         run_file(rt, name.as_str())?;
     }
     Ok(())

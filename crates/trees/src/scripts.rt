@@ -6,7 +6,7 @@ use crate::fronts::front_kinds;
 use crate::members::put_head;
 use crate::part::{Part, put};
 use crate::show::text_of;
-use crate::stop::Stop;
+use case_files::Stop;
 use gd_header::header_end;
 use gd_parser::parse;
 use gd_syntax::{Script, SolveError};

@@ -1,12 +1,12 @@
 // From the parts of a tree to its text.
 
-use crate::escapes::push_quoted;
 use crate::expressions::{put_expr, put_type_name};
 use crate::members::put_member;
 use crate::part::{Part, Parts};
 use crate::patterns::put_pattern;
 use crate::places::push_place;
 use crate::statements::{put_simple, put_stmt};
+use case_files::push_quoted;
 use gd_syntax::{Literal, Name, Place};
 use std::alloc::{AllocError, Global};
 use std::fmt::Write;

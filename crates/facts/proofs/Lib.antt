@@ -1,0 +1,14 @@
+pub mod Derivations
+pub mod Evaluation
+pub mod Agreement
+pub mod Decision
+pub mod FaultSearch
+pub mod Inside
+pub mod Outcomes
+pub mod OutcomeAgreement
+pub mod HeldUp
+pub mod Cycles
+pub mod Reach
+pub mod FaultDecision
+pub mod Marks
+pub mod OneFault

@@ -1,0 +1,9 @@
+pub mod Agreement
+pub mod Evaluation
+pub mod Facts
+pub mod FiniteNodes
+pub mod Outcome
+pub mod Needs
+pub mod OutcomeAgreement
+pub mod Reach
+pub mod Situations

@@ -1,0 +1,3 @@
+pub mod Compute
+pub mod BaseRowsProved
+pub mod InnerRowsProved

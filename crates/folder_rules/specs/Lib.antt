@@ -1,0 +1,11 @@
+pub mod Folders
+pub mod Classes
+pub mod Uses
+pub mod Links
+pub mod Nodes
+pub mod Bases
+pub mod Rules
+pub mod Loads
+pub mod SmallFolders
+pub mod BaseRows
+pub mod InnerRows

@@ -1,0 +1,6 @@
+pub mod Places
+pub mod Frugal
+pub mod FrugalCalls
+pub mod Goings
+pub mod EachWell
+pub mod CodeRows

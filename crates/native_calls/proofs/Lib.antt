@@ -1,0 +1,4 @@
+mod Rows
+mod Refusals
+mod Calls
+mod Counts

@@ -1,0 +1,16 @@
+pub mod State
+pub mod Projects
+pub mod Types
+pub mod Constants
+pub mod Objects
+pub mod Meanings
+pub mod Emission
+pub mod Members
+pub mod Methods
+pub mod Exprs
+pub mod Patterns
+pub mod Statements
+pub mod Functions
+pub mod Runs
+pub mod Tables
+pub mod OneClass

@@ -1,0 +1,14 @@
+mod Compute
+mod FirstRowsProved
+mod ExpressionRowsProved
+mod NativeRowsProved
+mod CallRowsProved
+mod NameRowsProved
+mod ClassRowsProved
+mod TypeRowsProved
+mod VariableRowsProved
+mod StatementRowsProved
+mod PatternRowsProved
+mod EmissionRowsProved
+mod SignalRowsProved
+mod TreeRowsProved

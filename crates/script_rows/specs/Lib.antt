@@ -1,0 +1,14 @@
+pub mod Scripts
+pub mod FirstRows
+pub mod ExpressionRows
+pub mod NativeRows
+pub mod CallRows
+pub mod NameRows
+pub mod ClassRows
+pub mod TypeRows
+pub mod VariableRows
+pub mod StatementRows
+pub mod PatternRows
+pub mod EmissionRows
+pub mod SignalRows
+pub mod TreeRows
