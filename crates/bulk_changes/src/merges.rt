@@ -9,6 +9,7 @@ ghost use Rattle.variant_values.specs.Heaps.{cell_at, is_dict, knows, knows_key,
 ghost use Rattle.variant_values.specs.Changes.{Keeps, HasGiven, counted, weighed};
 ghost use Rattle.variant_values.specs.DictMethods.{entries_in, merge_of, merged, with_entries};
 ghost use Rattle.bulk_changes.specs.Merges.{key_more, keys_more, weight_less, weight_more, weights_less, weights_more, with_put, HasNulls};
+ghost use Rattle.call_support.specs.Retaining.{RetainsAsMuch};
 
 use call_support::changes::set_entry;
 use call_support::views::entries;
@@ -110,6 +111,7 @@ fn enter(heap: &mut Heap, of: Serial, key: Key, value: Value) -> Result<(), Trou
     ensures ok { OnOk result (heap.new.state ≡ with_entry_at heap.old.state of.0 key value) }
     ensures memory { IfErr result (λ e. e ≡ Trouble.NoMemory) }
     ensures keeps { Keeps heap.old.state.cells heap.new.state.cells }
+    ensures kept { RetainsAsMuch heap.old.state heap.new.state }
 {
     set_entry(heap, of, key, value)
 }
@@ -122,6 +124,7 @@ fn set_null_at(heap: &mut Heap, of: Serial, other: Serial, index: usize) -> Resu
     ensures ok { OnOk result ((f : AKey × AValue) → slice_get (entries_in heap.old.state other.0) index ≡ Some f → heap.new.state ≡ cond (is_some (lookup (same_key f.0) (entries_in heap.old.state of.0))) (with_entry_at heap.old.state of.0 f.0 Null) heap.old.state) }
     ensures memory { IfErr result (λ e. e ≡ Trouble.NoMemory) }
     ensures keeps { Keeps heap.old.state.cells heap.new.state.cells }
+    ensures kept { RetainsAsMuch heap.old.state heap.new.state }
 {
     heap.is_sound();
     let (key, _) = entries(heap, other).entry_at(index);
@@ -141,6 +144,7 @@ fn set_nulls(heap: &mut Heap, of: Serial, other: Serial) -> Result<(), Trouble>
     ensures ok { OnOk result (HasNulls heap.old.state heap.new.state of.0 (entries_in heap.old.state other.0) (entries_in heap.old.state other.0)) }
     ensures memory { IfErr result (λ e. e ≡ Trouble.NoMemory) }
     ensures keeps { Keeps heap.old.state.cells heap.new.state.cells }
+    ensures kept { RetainsAsMuch heap.old.state heap.new.state }
 {
     for i in 0..entries(heap, other).len() {
         set_null_at(heap, of, other, i)?;
@@ -163,6 +167,7 @@ fn enter_at(
     ensures ok { OnOk result ((f : AKey × AValue) → slice_get (entries_in heap.old.state other.0) index ≡ Some f → heap.new.state ≡ with_entries heap.old.state of.0 (with_put overwrite (entries_in heap.old.state of.0) f)) }
     ensures memory { IfErr result (λ e. e ≡ Trouble.NoMemory) }
     ensures keeps { Keeps heap.old.state.cells heap.new.state.cells }
+    ensures kept { RetainsAsMuch heap.old.state heap.new.state }
 {
     let (key, value) = entries(heap, other).entry_at(index);
     if !overwrite && entries(heap, of).get(key).is_some() {
@@ -183,6 +188,7 @@ fn enter_all(heap: &mut Heap, of: Serial, other: Serial, overwrite: bool) -> Res
     ensures ok { OnOk result (heap.new.state ≡ with_entries heap.old.state of.0 (merged overwrite (entries_in heap.old.state of.0) (entries_in heap.old.state other.0))) }
     ensures memory { IfErr result (λ e. e ≡ Trouble.NoMemory) }
     ensures keeps { Keeps heap.old.state.cells heap.new.state.cells }
+    ensures kept { RetainsAsMuch heap.old.state heap.new.state }
 {
     for i in 0..entries(heap, other).len() {
         enter_at(heap, of, other, i, overwrite)?;
@@ -199,6 +205,7 @@ fn overwrite_all(heap: &mut Heap, of: Serial, other: Serial) -> Result<(), Troub
     ensures ok { OnOk result (heap.new.state ≡ with_entries heap.old.state of.0 (merged true (entries_in heap.old.state of.0) (entries_in heap.old.state other.0))) }
     ensures memory { IfErr result (λ e. e ≡ Trouble.NoMemory) }
     ensures keeps { Keeps heap.old.state.cells heap.new.state.cells }
+    ensures kept { RetainsAsMuch heap.old.state heap.new.state }
 {
     set_nulls(heap, of, other)?;
     enter_all(heap, of, other, true)
@@ -213,6 +220,7 @@ fn put_all(heap: &mut Heap, of: Serial, other: Serial, overwrite: bool) -> Resul
     ensures ok { OnOk result (heap.new.state ≡ with_entries heap.old.state of.0 (merged overwrite (entries_in heap.old.state of.0) (entries_in heap.old.state other.0))) }
     ensures memory { IfErr result (λ e. e ≡ Trouble.NoMemory) }
     ensures keeps { Keeps heap.old.state.cells heap.new.state.cells }
+    ensures kept { RetainsAsMuch heap.old.state heap.new.state }
 {
     if overwrite {
         overwrite_all(heap, of, other)
@@ -227,6 +235,7 @@ pub fn merge(heap: &mut Heap, of: Serial, other: Serial, overwrite: bool) -> Res
     requires other { is_dict (cell_at heap.old.state.cells other.0) ≡ true }
     ensures given { HasGiven result heap.old.state heap.new.state (merge_of heap.old.state of.0 other.0 overwrite) }
     ensures keeps { Keeps heap.old.state.cells heap.new.state.cells }
+    ensures kept { RetainsAsMuch heap.old.state heap.new.state }
     ensures known { IfOk result (λ v. knows heap.new.state.cells v ≡ true) }
 {
     fits(heap, of, other, overwrite)?;

@@ -6,6 +6,7 @@ ghost use Rattle.variant_values.specs.ElementTypes.{element_of};
 ghost use Rattle.variant_values.specs.ArrayMethods.{items_at};
 ghost use Rattle.variant_values.specs.Resizes.{default_of, defaults, in_a_row, put_last, resize_of, sized, with_more};
 ghost use Rattle.bulk_changes.specs.Containers.{empty_cell, named};
+ghost use Rattle.call_support.specs.Retaining.{RetainsAsMuch};
 
 use call_support::changes::{new_array, new_dict, remove_items, splice};
 use call_support::views::{element, items};
@@ -55,6 +56,7 @@ fn add_one(alloc: Global, heap: &mut Heap, kind: Container) -> Result<Value, Tro
     ensures value { IfOk result (λ v. v ≡ named kind (next_serial heap.old.state)) }
     ensures memory { IfErr result (λ e. e ≡ Trouble.NoMemory) }
     ensures keeps { Keeps heap.old.state.cells heap.new.state.cells }
+    ensures kept { RetainsAsMuch heap.old.state heap.new.state }
     ensures known { IfOk result (λ v. knows heap.new.state.cells v ≡ true) }
 {
     match kind {
@@ -76,6 +78,7 @@ fn add_many(
     ensures values { IfOk result (λ list. list.items ≡ in_a_row (named kind) (length heap.old.state.cells) count) }
     ensures memory { IfErr result (λ e. e ≡ Trouble.NoMemory) }
     ensures keeps { Keeps heap.old.state.cells heap.new.state.cells }
+    ensures kept { RetainsAsMuch heap.old.state heap.new.state }
     ensures known { IfOk result (λ list. KnowsAll heap.new.state.cells list.items) }
 {
     let mut list = Vec::new(alloc);
@@ -92,6 +95,7 @@ fn put_last(heap: &mut Heap, of: Serial, put: Vec<Value>) -> Result<Value, Troub
     requires put { KnowsAll heap.old.state.cells put.items }
     ensures given { HasGiven result heap.old.state heap.new.state (put_last (put.items, heap.old.state) of.0) }
     ensures keeps { Keeps heap.old.state.cells heap.new.state.cells }
+    ensures kept { RetainsAsMuch heap.old.state heap.new.state }
     ensures known { IfOk result (λ v. knows heap.new.state.cells v ≡ true) }
 {
     heap.is_sound();
@@ -112,6 +116,7 @@ fn grow_by(
     requires few { more ≤ 1048576 }
     ensures given { HasGiven result heap.old.state heap.new.state (put_last (in_a_row (named kind) (length heap.old.state.cells) more, with_more heap.old.state (empty_cell kind) more) of.0) }
     ensures keeps { Keeps heap.old.state.cells heap.new.state.cells }
+    ensures kept { RetainsAsMuch heap.old.state heap.new.state }
     ensures known { IfOk result (λ v. knows heap.new.state.cells v ≡ true) }
 {
     if more as u64 * 18 > heap.room() {
@@ -130,6 +135,7 @@ fn grow(alloc: Global, heap: &mut Heap, of: Serial, more: usize) -> Result<Value
     requires few { more ≤ 1048576 }
     ensures given { HasGiven result heap.old.state heap.new.state (put_last (defaults heap.old.state (element_of (cell_at heap.old.state.cells of.0)) more) of.0) }
     ensures keeps { Keeps heap.old.state.cells heap.new.state.cells }
+    ensures kept { RetainsAsMuch heap.old.state heap.new.state }
     ensures known { IfOk result (λ v. knows heap.new.state.cells v ≡ true) }
 {
     match element(heap, of) {
@@ -148,6 +154,7 @@ fn sized(alloc: Global, heap: &mut Heap, of: Serial, size: usize) -> Result<Valu
     requires few { size ≤ 1048576 }
     ensures given { HasGiven result heap.old.state heap.new.state (sized heap.old.state of.0 size) }
     ensures keeps { Keeps heap.old.state.cells heap.new.state.cells }
+    ensures kept { RetainsAsMuch heap.old.state heap.new.state }
     ensures known { IfOk result (λ v. knows heap.new.state.cells v ≡ true) }
 {
     let len = items(heap, of).len();
@@ -163,6 +170,7 @@ pub fn resize(alloc: Global, heap: &mut Heap, of: Serial, to: i64) -> Result<Val
     requires { is_array (cell_at heap.old.state.cells of.0) ≡ true }
     ensures given { HasGiven result heap.old.state heap.new.state (resize_of heap.old.state of.0 to) }
     ensures keeps { Keeps heap.old.state.cells heap.new.state.cells }
+    ensures kept { RetainsAsMuch heap.old.state heap.new.state }
     ensures known { IfOk result (λ v. knows heap.new.state.cells v ≡ true) }
 {
     if to < 0 {

@@ -2,6 +2,7 @@
 ghost use Rattle.std.specs.Prelude.{◌≡◌, ◌+◌, ◌≤◌, [], length, true, Ok, IfOk};
 ghost use Rattle.variant_values.specs.Heaps.{cell_at, is_array, is_dict, items_of, knows, knows_key, with_splice, with_entry_at, KnowsAll, KnowsEntries};
 ghost use Rattle.variant_values.specs.Changes.{Keeps, HasGiven, new_array, new_dict, weighed};
+ghost use Rattle.call_support.specs.Retaining.{RetainsAsMuch};
 
 use ref_objects::heap::Heap;
 use std::alloc::Global;
@@ -24,6 +25,7 @@ pub fn splice(
     requires put { KnowsAll heap.old.state.cells put.items }
     ensures given { HasGiven result heap.old.state heap.new.state (weighed (with_splice heap.old.state of.0 at out put.items) tt) }
     ensures keeps { Keeps heap.old.state.cells heap.new.state.cells }
+    ensures kept { RetainsAsMuch heap.old.state heap.new.state }
 {
     match heap.splice(of, at, out, put) {
         Ok(()) => Ok(()),
@@ -43,6 +45,7 @@ pub fn remove_items(
     requires items { at + out ≤ length (items_of (cell_at heap.old.state.cells of.0)) }
     ensures given { HasGiven result heap.old.state heap.new.state (Ok (tt, with_splice heap.old.state of.0 at out [])) }
     ensures keeps { Keeps heap.old.state.cells heap.new.state.cells }
+    ensures kept { RetainsAsMuch heap.old.state heap.new.state }
 {
     heap.is_sound();
     match heap.splice(of, at, out, Vec::new(alloc)) {
@@ -58,6 +61,7 @@ pub fn set_entry(heap: &mut Heap, of: Serial, key: Key, to: Value) -> Result<(),
     requires to { knows heap.old.state.cells to ≡ true }
     ensures given { HasGiven result heap.old.state heap.new.state (weighed (with_entry_at heap.old.state of.0 key to) tt) }
     ensures keeps { Keeps heap.old.state.cells heap.new.state.cells }
+    ensures kept { RetainsAsMuch heap.old.state heap.new.state }
 {
     match heap.set_entry(of, key, to) {
         Ok(()) => Ok(()),
@@ -74,6 +78,7 @@ pub fn new_array(
     requires { KnowsAll heap.old.state.cells items.items }
     ensures given { HasGiven result heap.old.state heap.new.state (new_array heap.old.state items.items of) }
     ensures keeps { Keeps heap.old.state.cells heap.new.state.cells }
+    ensures kept { RetainsAsMuch heap.old.state heap.new.state }
     ensures known { IfOk result (λ v. knows heap.new.state.cells v ≡ true) }
 {
     match heap.new_cell(Cell::Array(Values::of(items), of)) {
@@ -87,6 +92,7 @@ pub fn new_dict(heap: &mut Heap, entries: Entries) -> Result<Value, Trouble>
     requires { KnowsEntries heap.old.state.cells entries }
     ensures given { HasGiven result heap.old.state heap.new.state (new_dict heap.old.state entries) }
     ensures keeps { Keeps heap.old.state.cells heap.new.state.cells }
+    ensures kept { RetainsAsMuch heap.old.state heap.new.state }
     ensures known { IfOk result (λ v. knows heap.new.state.cells v ≡ true) }
 {
     match heap.new_cell(Cell::Dict(entries)) {

@@ -252,7 +252,10 @@ fn push_units(ops: &mut Items<Op>) -> Result<(), AllocError> {
         ops,
         &[
             Instr::Step,
-            Instr::EndUnit { locals: 2 },
+            Instr::EndUnit {
+                locals: 2,
+                bound: 4,
+            },
             Instr::Jump { skip: 9 },
             Instr::JumpUnless {
                 condition: Reg(2),

@@ -7,6 +7,7 @@ ghost use Rattle.variant_values.specs.ArrayMethods.{append_array_of, remove_at_o
 ghost use Rattle.variant_values.specs.ContainerCalls.{array_call_of, truth_in};
 ghost use Rattle.variant_values.specs.Copies.{array_duplicate_of};
 ghost use Rattle.variant_values.specs.Resizes.{resize_of};
+ghost use Rattle.call_support.specs.Retaining.{RetainsAsMuch};
 
 use crate::arrays;
 use crate::sorts::sort;
@@ -31,6 +32,7 @@ fn with_none(
     requires { is_array (cell_at heap.old.state.cells of.0) ≡ true }
     ensures given { HasGiven result heap.old.state heap.new.state (array_call_of heap.old.state method of []) }
     ensures keeps { Keeps heap.old.state.cells heap.new.state.cells }
+    ensures kept { RetainsAsMuch heap.old.state heap.new.state }
     ensures known { IfOk result (λ v. knows heap.new.state.cells v ≡ true) }
 {
     match method {
@@ -64,6 +66,7 @@ fn remove_at(alloc: Global, heap: &mut Heap, of: Serial, index: &Value) -> Resul
     requires { is_array (cell_at heap.old.state.cells of.0) ≡ true }
     ensures given { HasGiven result heap.old.state heap.new.state (with_given (int_in index.now) (λ i. remove_at_of heap.old.state of.0 i)) }
     ensures keeps { Keeps heap.old.state.cells heap.new.state.cells }
+    ensures kept { RetainsAsMuch heap.old.state heap.new.state }
     ensures known { IfOk result (λ v. knows heap.new.state.cells v ≡ true) }
 {
     match int_in(index) {
@@ -76,6 +79,7 @@ fn slice_from(alloc: Global, heap: &mut Heap, of: Serial, from: &Value) -> Resul
     requires { is_array (cell_at heap.old.state.cells of.0) ≡ true }
     ensures given { HasGiven result heap.old.state heap.new.state (with_given (int_in from.now) (λ i. slice_from_of heap.old.state of.0 i)) }
     ensures keeps { Keeps heap.old.state.cells heap.new.state.cells }
+    ensures kept { RetainsAsMuch heap.old.state heap.new.state }
     ensures known { IfOk result (λ v. knows heap.new.state.cells v ≡ true) }
 {
     match int_in(from) {
@@ -88,6 +92,7 @@ fn resize_to(alloc: Global, heap: &mut Heap, of: Serial, size: &Value) -> Result
     requires { is_array (cell_at heap.old.state.cells of.0) ≡ true }
     ensures given { HasGiven result heap.old.state heap.new.state (with_given (int_in size.now) (λ n. resize_of heap.old.state of.0 n)) }
     ensures keeps { Keeps heap.old.state.cells heap.new.state.cells }
+    ensures kept { RetainsAsMuch heap.old.state heap.new.state }
     ensures known { IfOk result (λ v. knows heap.new.state.cells v ≡ true) }
 {
     match int_in(size) {
@@ -101,6 +106,7 @@ fn append_array(alloc: Global, heap: &mut Heap, of: Serial, other: &Value) -> Re
     requires other { knows heap.old.state.cells other.now ≡ true }
     ensures given { HasGiven result heap.old.state heap.new.state (with_given (array_in other.now) (λ y. append_array_of heap.old.state of.0 y.0)) }
     ensures keeps { Keeps heap.old.state.cells heap.new.state.cells }
+    ensures kept { RetainsAsMuch heap.old.state heap.new.state }
     ensures known { IfOk result (λ v. knows heap.new.state.cells v ≡ true) }
 {
     match array_in(heap, other) {
@@ -113,6 +119,7 @@ fn duplicate(alloc: Global, heap: &mut Heap, of: Serial, deep: &Value) -> Result
     requires { is_array (cell_at heap.old.state.cells of.0) ≡ true }
     ensures given { HasGiven result heap.old.state heap.new.state (with_given (truth_in deep.now) (λ deep. array_duplicate_of heap.old.state of deep)) }
     ensures keeps { Keeps heap.old.state.cells heap.new.state.cells }
+    ensures kept { RetainsAsMuch heap.old.state heap.new.state }
     ensures known { IfOk result (λ v. knows heap.new.state.cells v ≡ true) }
 {
     match truth_in(deep) {
@@ -133,6 +140,7 @@ fn with_one(
     requires value { knows heap.old.state.cells v.now ≡ true }
     ensures given { HasGiven result heap.old.state heap.new.state (array_call_of heap.old.state method of (v.now ∷ [])) }
     ensures keeps { Keeps heap.old.state.cells heap.new.state.cells }
+    ensures kept { RetainsAsMuch heap.old.state heap.new.state }
     ensures known { IfOk result (λ v. knows heap.new.state.cells v ≡ true) }
 {
     match method {
@@ -172,6 +180,7 @@ fn insert(
     requires value { knows heap.old.state.cells v.now ≡ true }
     ensures given { HasGiven result heap.old.state heap.new.state (array_call_of heap.old.state ArrayMethod.Insert of (index.now ∷ v.now ∷ [])) }
     ensures keeps { Keeps heap.old.state.cells heap.new.state.cells }
+    ensures kept { RetainsAsMuch heap.old.state heap.new.state }
     ensures known { IfOk result (λ v. knows heap.new.state.cells v ≡ true) }
 {
     match int_in(index) {
@@ -190,6 +199,7 @@ fn slice(
     requires { is_array (cell_at heap.old.state.cells of.0) ≡ true }
     ensures given { HasGiven result heap.old.state heap.new.state (array_call_of heap.old.state ArrayMethod.Slice of (from.now ∷ to.now ∷ [])) }
     ensures keeps { Keeps heap.old.state.cells heap.new.state.cells }
+    ensures kept { RetainsAsMuch heap.old.state heap.new.state }
     ensures known { IfOk result (λ v. knows heap.new.state.cells v ≡ true) }
 {
     match (int_in(from), int_in(to)) {
@@ -210,6 +220,7 @@ fn with_two(
     requires value { knows heap.old.state.cells w.now ≡ true }
     ensures given { HasGiven result heap.old.state heap.new.state (array_call_of heap.old.state method of (v.now ∷ w.now ∷ [])) }
     ensures keeps { Keeps heap.old.state.cells heap.new.state.cells }
+    ensures kept { RetainsAsMuch heap.old.state heap.new.state }
     ensures known { IfOk result (λ v. knows heap.new.state.cells v ≡ true) }
 {
     match method {
@@ -255,6 +266,7 @@ pub fn array_call(
     requires args { KnowsAll heap.old.state.cells args.now }
     ensures given { HasGiven result heap.old.state heap.new.state (array_call_of heap.old.state method of args.now) }
     ensures keeps { Keeps heap.old.state.cells heap.new.state.cells }
+    ensures kept { RetainsAsMuch heap.old.state heap.new.state }
     ensures known { IfOk result (λ v. knows heap.new.state.cells v ≡ true) }
 {
     match args {

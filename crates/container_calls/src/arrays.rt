@@ -5,6 +5,7 @@ ghost use Rattle.variant_values.specs.Operators.{Answers};
 ghost use Rattle.variant_values.specs.Changes.{Keeps, HasGiven, weighed};
 ghost use Rattle.variant_values.specs.Comparisons.{count_equal, first_equal, same_value};
 ghost use Rattle.variant_values.specs.ArrayMethods.{append_array_of, append_of, back_of, between, clear_of, count_of, cut, emptiness_of, erase_of, fill_of, find_of, front_of, has_of, insert_of, item_or_null, items_at, place_number, pop_back_of, pop_front_of, popped, push_front_of, put_of, remove_at_of, reverse_of, shallow_of, size_of, slice_from_of, slice_of, spot_between};
+ghost use Rattle.call_support.specs.Retaining.{RetainsAsMuch};
 
 use crate::comparisons::{count_equal, first_equal};
 use crate::elements::{all_taken, is_taken};
@@ -81,6 +82,7 @@ pub fn change(
     requires put { KnowsAll heap.old.state.cells put.items }
     ensures given { HasGiven result heap.old.state heap.new.state (weighed (with_splice heap.old.state of.0 at out put.items) gives) }
     ensures keeps { Keeps heap.old.state.cells heap.new.state.cells }
+    ensures kept { RetainsAsMuch heap.old.state heap.new.state }
     ensures known { IfOk result (λ v. knows heap.new.state.cells v ≡ true) }
 {
     splice(heap, of, at, out, put)?;
@@ -101,6 +103,7 @@ fn take_out(
     requires gives { knows heap.old.state.cells gives ≡ true }
     ensures given { HasGiven result heap.old.state heap.new.state (Ok (gives, with_splice heap.old.state of.0 at out [])) }
     ensures keeps { Keeps heap.old.state.cells heap.new.state.cells }
+    ensures kept { RetainsAsMuch heap.old.state heap.new.state }
     ensures known { IfOk result (λ v. knows heap.new.state.cells v ≡ true) }
 {
     remove_items(alloc, heap, of, at, out)?;
@@ -122,6 +125,7 @@ fn put(
     requires put { KnowsAll heap.old.state.cells put.items }
     ensures given { HasGiven result heap.old.state heap.new.state (put_of heap.old.state of.0 at out put.items gives) }
     ensures keeps { Keeps heap.old.state.cells heap.new.state.cells }
+    ensures kept { RetainsAsMuch heap.old.state heap.new.state }
     ensures known { IfOk result (λ v. knows heap.new.state.cells v ≡ true) }
 {
     if !all_taken(heap, element(heap, of), put.as_slice()) {
@@ -139,6 +143,7 @@ pub fn append(alloc: Global, heap: &mut Heap, of: Serial, v: &Value) -> Result<V
     requires value { knows heap.old.state.cells v.now ≡ true }
     ensures given { HasGiven result heap.old.state heap.new.state (append_of heap.old.state of.0 v.now) }
     ensures keeps { Keeps heap.old.state.cells heap.new.state.cells }
+    ensures kept { RetainsAsMuch heap.old.state heap.new.state }
     ensures known { IfOk result (λ v. knows heap.new.state.cells v ≡ true) }
 {
     let len = items(heap, of).len();
@@ -151,6 +156,7 @@ pub fn push_front(alloc: Global, heap: &mut Heap, of: Serial, v: &Value) -> Resu
     requires value { knows heap.old.state.cells v.now ≡ true }
     ensures given { HasGiven result heap.old.state heap.new.state (push_front_of heap.old.state of.0 v.now) }
     ensures keeps { Keeps heap.old.state.cells heap.new.state.cells }
+    ensures kept { RetainsAsMuch heap.old.state heap.new.state }
     ensures known { IfOk result (λ v. knows heap.new.state.cells v ≡ true) }
 {
     put(heap, of, 0, 0, one(alloc, v.clone()?)?, Value::Null)
@@ -167,6 +173,7 @@ pub fn append_array(
     requires other { is_array (cell_at heap.old.state.cells other.0) ≡ true }
     ensures given { HasGiven result heap.old.state heap.new.state (append_array_of heap.old.state of.0 other.0) }
     ensures keeps { Keeps heap.old.state.cells heap.new.state.cells }
+    ensures kept { RetainsAsMuch heap.old.state heap.new.state }
     ensures known { IfOk result (λ v. knows heap.new.state.cells v ≡ true) }
 {
     let len = items(heap, of).len();
@@ -198,6 +205,7 @@ pub fn insert(
     requires value { knows heap.old.state.cells v.now ≡ true }
     ensures given { HasGiven result heap.old.state heap.new.state (insert_of heap.old.state of.0 index v.now) }
     ensures keeps { Keeps heap.old.state.cells heap.new.state.cells }
+    ensures kept { RetainsAsMuch heap.old.state heap.new.state }
     ensures known { IfOk result (λ v. knows heap.new.state.cells v ≡ true) }
 {
     let Some(at) = spot_between(index, items(heap, of).len()) else {
@@ -211,6 +219,7 @@ pub fn remove_at(alloc: Global, heap: &mut Heap, of: Serial, index: i64) -> Resu
     requires { is_array (cell_at heap.old.state.cells of.0) ≡ true }
     ensures given { HasGiven result heap.old.state heap.new.state (remove_at_of heap.old.state of.0 index) }
     ensures keeps { Keeps heap.old.state.cells heap.new.state.cells }
+    ensures kept { RetainsAsMuch heap.old.state heap.new.state }
     ensures known { IfOk result (λ v. knows heap.new.state.cells v ≡ true) }
 {
     let Some(at) = spot(index, items(heap, of).len()) else {
@@ -225,6 +234,7 @@ pub fn erase(alloc: Global, heap: &mut Heap, of: Serial, v: &Value) -> Result<Va
     requires value { knows heap.old.state.cells v.now ≡ true }
     ensures given { HasGiven result heap.old.state heap.new.state (erase_of heap.old.state of.0 v.now) }
     ensures keeps { Keeps heap.old.state.cells heap.new.state.cells }
+    ensures kept { RetainsAsMuch heap.old.state heap.new.state }
     ensures known { IfOk result (λ v. knows heap.new.state.cells v ≡ true) }
 {
     let found = find_in(heap, of, v)?;
@@ -250,6 +260,7 @@ fn pop(alloc: Global, heap: &mut Heap, of: Serial, at: usize) -> Result<Value, T
     requires { is_array (cell_at heap.old.state.cells of.0) ≡ true }
     ensures given { HasGiven result heap.old.state heap.new.state (popped heap.old.state of.0 at (slice_get (items_at heap.old.state of.0) at)) }
     ensures keeps { Keeps heap.old.state.cells heap.new.state.cells }
+    ensures kept { RetainsAsMuch heap.old.state heap.new.state }
     ensures known { IfOk result (λ v. knows heap.new.state.cells v ≡ true) }
 {
     match copy_at(items(heap, of), at)? {
@@ -272,6 +283,7 @@ pub fn pop_back(alloc: Global, heap: &mut Heap, of: Serial) -> Result<Value, Tro
     requires { is_array (cell_at heap.old.state.cells of.0) ≡ true }
     ensures given { HasGiven result heap.old.state heap.new.state (pop_back_of heap.old.state of.0) }
     ensures keeps { Keeps heap.old.state.cells heap.new.state.cells }
+    ensures kept { RetainsAsMuch heap.old.state heap.new.state }
     ensures known { IfOk result (λ v. knows heap.new.state.cells v ≡ true) }
 {
     let at = items(heap, of).len().saturating_sub(1);
@@ -283,6 +295,7 @@ pub fn pop_front(alloc: Global, heap: &mut Heap, of: Serial) -> Result<Value, Tr
     requires { is_array (cell_at heap.old.state.cells of.0) ≡ true }
     ensures given { HasGiven result heap.old.state heap.new.state (pop_front_of heap.old.state of.0) }
     ensures keeps { Keeps heap.old.state.cells heap.new.state.cells }
+    ensures kept { RetainsAsMuch heap.old.state heap.new.state }
     ensures known { IfOk result (λ v. knows heap.new.state.cells v ≡ true) }
 {
     pop(alloc, heap, of, 0)
@@ -293,6 +306,7 @@ pub fn clear(alloc: Global, heap: &mut Heap, of: Serial) -> Result<Value, Troubl
     requires { is_array (cell_at heap.old.state.cells of.0) ≡ true }
     ensures given { HasGiven result heap.old.state heap.new.state (clear_of heap.old.state of.0) }
     ensures keeps { Keeps heap.old.state.cells heap.new.state.cells }
+    ensures kept { RetainsAsMuch heap.old.state heap.new.state }
     ensures known { IfOk result (λ v. knows heap.new.state.cells v ≡ true) }
 {
     let len = items(heap, of).len();
@@ -312,6 +326,7 @@ pub fn reverse(alloc: Global, heap: &mut Heap, of: Serial) -> Result<Value, Trou
     requires { is_array (cell_at heap.old.state.cells of.0) ≡ true }
     ensures given { HasGiven result heap.old.state heap.new.state (reverse_of heap.old.state of.0) }
     ensures keeps { Keeps heap.old.state.cells heap.new.state.cells }
+    ensures kept { RetainsAsMuch heap.old.state heap.new.state }
     ensures known { IfOk result (λ v. knows heap.new.state.cells v ≡ true) }
 {
     let list = reversed(alloc, items(heap, of))?;
@@ -335,6 +350,7 @@ pub fn fill(alloc: Global, heap: &mut Heap, of: Serial, v: &Value) -> Result<Val
     requires value { knows heap.old.state.cells v.now ≡ true }
     ensures given { HasGiven result heap.old.state heap.new.state (fill_of heap.old.state of.0 v.now) }
     ensures keeps { Keeps heap.old.state.cells heap.new.state.cells }
+    ensures kept { RetainsAsMuch heap.old.state heap.new.state }
     ensures known { IfOk result (λ v. knows heap.new.state.cells v ≡ true) }
 {
     if !is_taken(heap, element(heap, of), v) {
@@ -385,6 +401,7 @@ pub fn slice(
     requires { is_array (cell_at heap.old.state.cells of.0) ≡ true }
     ensures given { HasGiven result heap.old.state heap.new.state (slice_of heap.old.state of.0 from to) }
     ensures keeps { Keeps heap.old.state.cells heap.new.state.cells }
+    ensures kept { RetainsAsMuch heap.old.state heap.new.state }
     ensures known { IfOk result (λ v. knows heap.new.state.cells v ≡ true) }
 {
     let all = items(heap, of);
@@ -398,6 +415,7 @@ pub fn slice_from(alloc: Global, heap: &mut Heap, of: Serial, from: i64) -> Resu
     requires { is_array (cell_at heap.old.state.cells of.0) ≡ true }
     ensures given { HasGiven result heap.old.state heap.new.state (slice_from_of heap.old.state of.0 from) }
     ensures keeps { Keeps heap.old.state.cells heap.new.state.cells }
+    ensures kept { RetainsAsMuch heap.old.state heap.new.state }
     ensures known { IfOk result (λ v. knows heap.new.state.cells v ≡ true) }
 {
     let all = items(heap, of);
@@ -411,6 +429,7 @@ pub fn duplicate(alloc: Global, heap: &mut Heap, of: Serial) -> Result<Value, Tr
     requires { is_array (cell_at heap.old.state.cells of.0) ≡ true }
     ensures given { HasGiven result heap.old.state heap.new.state (shallow_of heap.old.state of.0) }
     ensures keeps { Keeps heap.old.state.cells heap.new.state.cells }
+    ensures kept { RetainsAsMuch heap.old.state heap.new.state }
     ensures known { IfOk result (λ v. knows heap.new.state.cells v ≡ true) }
 {
     let all = items(heap, of).to_vec(alloc)?;

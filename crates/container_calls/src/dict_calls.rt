@@ -5,6 +5,7 @@ ghost use Rattle.variant_values.specs.StringMethods.{with_given};
 ghost use Rattle.variant_values.specs.Changes.{HasGiven, Keeps};
 ghost use Rattle.variant_values.specs.ContainerCalls.{dict_call_of, dict_in, truth_in};
 ghost use Rattle.variant_values.specs.Copies.{dict_duplicate_of};
+ghost use Rattle.call_support.specs.Retaining.{RetainsAsMuch};
 
 use crate::array_calls::BAD_ARGS;
 use crate::dicts;
@@ -26,6 +27,7 @@ fn with_none(
     requires { is_dict (cell_at heap.old.state.cells of.0) ≡ true }
     ensures given { HasGiven result heap.old.state heap.new.state (dict_call_of heap.old.state method of []) }
     ensures keeps { Keeps heap.old.state.cells heap.new.state.cells }
+    ensures kept { RetainsAsMuch heap.old.state heap.new.state }
     ensures known { IfOk result (λ v. knows heap.new.state.cells v ≡ true) }
 {
     match method {
@@ -43,6 +45,7 @@ fn duplicate(alloc: Global, heap: &mut Heap, of: Serial, deep: &Value) -> Result
     requires { is_dict (cell_at heap.old.state.cells of.0) ≡ true }
     ensures given { HasGiven result heap.old.state heap.new.state (with_given (truth_in deep.now) (λ deep. dict_duplicate_of heap.old.state of deep)) }
     ensures keeps { Keeps heap.old.state.cells heap.new.state.cells }
+    ensures kept { RetainsAsMuch heap.old.state heap.new.state }
     ensures known { IfOk result (λ v. knows heap.new.state.cells v ≡ true) }
 {
     match truth_in(deep) {
@@ -57,6 +60,7 @@ fn merge_missing(heap: &mut Heap, of: Serial, other: &Value) -> Result<Value, Tr
     requires other { knows heap.old.state.cells other.now ≡ true }
     ensures given { HasGiven result heap.old.state heap.new.state (dict_call_of heap.old.state DictMethod.Merge of (other.now ∷ [])) }
     ensures keeps { Keeps heap.old.state.cells heap.new.state.cells }
+    ensures kept { RetainsAsMuch heap.old.state heap.new.state }
     ensures known { IfOk result (λ v. knows heap.new.state.cells v ≡ true) }
 {
     match dict_in(heap, other) {
@@ -76,6 +80,7 @@ fn with_one(
     requires value { knows heap.old.state.cells v.now ≡ true }
     ensures given { HasGiven result heap.old.state heap.new.state (dict_call_of heap.old.state method of (v.now ∷ [])) }
     ensures keeps { Keeps heap.old.state.cells heap.new.state.cells }
+    ensures kept { RetainsAsMuch heap.old.state heap.new.state }
     ensures known { IfOk result (λ v. knows heap.new.state.cells v ≡ true) }
 {
     match method {
@@ -102,6 +107,7 @@ fn merge_with(
     requires other { knows heap.old.state.cells other.now ≡ true }
     ensures given { HasGiven result heap.old.state heap.new.state (dict_call_of heap.old.state DictMethod.Merge of (other.now ∷ overwrite.now ∷ [])) }
     ensures keeps { Keeps heap.old.state.cells heap.new.state.cells }
+    ensures kept { RetainsAsMuch heap.old.state heap.new.state }
     ensures known { IfOk result (λ v. knows heap.new.state.cells v ≡ true) }
 {
     match (dict_in(heap, other), truth_in(overwrite)) {
@@ -122,6 +128,7 @@ fn with_two(
     requires second { knows heap.old.state.cells w.now ≡ true }
     ensures given { HasGiven result heap.old.state heap.new.state (dict_call_of heap.old.state method of (v.now ∷ w.now ∷ [])) }
     ensures keeps { Keeps heap.old.state.cells heap.new.state.cells }
+    ensures kept { RetainsAsMuch heap.old.state heap.new.state }
     ensures known { IfOk result (λ v. knows heap.new.state.cells v ≡ true) }
 {
     match method {
@@ -153,6 +160,7 @@ pub fn dict_call(
     requires args { KnowsAll heap.old.state.cells args.now }
     ensures given { HasGiven result heap.old.state heap.new.state (dict_call_of heap.old.state method of args.now) }
     ensures keeps { Keeps heap.old.state.cells heap.new.state.cells }
+    ensures kept { RetainsAsMuch heap.old.state heap.new.state }
     ensures known { IfOk result (λ v. knows heap.new.state.cells v ≡ true) }
 {
     match args {

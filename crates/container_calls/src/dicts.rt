@@ -7,6 +7,7 @@ ghost use Rattle.variant_values.specs.Operators.{key_of, Answers};
 ghost use Rattle.variant_values.specs.Changes.{Keeps, HasGiven};
 ghost use Rattle.variant_values.specs.DictMethods.{dict_clear_of, dict_emptiness_of, dict_erase_of, dict_shallow_of, dict_size_of, entries_in, keys_of, presence_of, value_of, value_of_key, values_of};
 ghost use Rattle.container_calls.specs.Walks.{IsLastKey};
+ghost use Rattle.call_support.specs.Retaining.{RetainsAsMuch};
 
 use call_support::changes::{new_array, new_dict};
 use call_support::copies::copied_entries;
@@ -114,6 +115,7 @@ pub fn keys(alloc: Global, heap: &mut Heap, of: Serial) -> Result<Value, Trouble
     requires { is_dict (cell_at heap.old.state.cells of.0) ≡ true }
     ensures given { HasGiven result heap.old.state heap.new.state (keys_of heap.old.state of.0) }
     ensures keeps { Keeps heap.old.state.cells heap.new.state.cells }
+    ensures kept { RetainsAsMuch heap.old.state heap.new.state }
     ensures known { IfOk result (λ v. knows heap.new.state.cells v ≡ true) }
 {
     let list = list_keys(alloc, entries(heap, of))?;
@@ -125,6 +127,7 @@ pub fn values(alloc: Global, heap: &mut Heap, of: Serial) -> Result<Value, Troub
     requires { is_dict (cell_at heap.old.state.cells of.0) ≡ true }
     ensures given { HasGiven result heap.old.state heap.new.state (values_of heap.old.state of.0) }
     ensures keeps { Keeps heap.old.state.cells heap.new.state.cells }
+    ensures kept { RetainsAsMuch heap.old.state heap.new.state }
     ensures known { IfOk result (λ v. knows heap.new.state.cells v ≡ true) }
 {
     let list = list_values(alloc, entries(heap, of))?;
@@ -137,6 +140,7 @@ pub fn erase(heap: &mut Heap, of: Serial, key: &Value) -> Result<Value, Trouble>
     requires key { knows heap.old.state.cells key.now ≡ true }
     ensures given { HasGiven result heap.old.state heap.new.state (dict_erase_of heap.old.state of.0 (key_of key.now)) }
     ensures keeps { Keeps heap.old.state.cells heap.new.state.cells }
+    ensures kept { RetainsAsMuch heap.old.state heap.new.state }
     ensures known { IfOk result (λ v. knows heap.new.state.cells v ≡ true) }
 {
     let key = Key::of(key)?;
@@ -159,6 +163,7 @@ pub fn clear(heap: &mut Heap, of: Serial) -> Result<Value, Trouble>
     requires { is_dict (cell_at heap.old.state.cells of.0) ≡ true }
     ensures given { HasGiven result heap.old.state heap.new.state (dict_clear_of heap.old.state of.0) }
     ensures keeps { Keeps heap.old.state.cells heap.new.state.cells }
+    ensures kept { RetainsAsMuch heap.old.state heap.new.state }
     ensures known { IfOk result (λ v. knows heap.new.state.cells v ≡ true) }
 {
     while let Some(key) = last_key(entries(heap, of))? {
@@ -172,6 +177,7 @@ pub fn duplicate(alloc: Global, heap: &mut Heap, of: Serial) -> Result<Value, Tr
     requires { is_dict (cell_at heap.old.state.cells of.0) ≡ true }
     ensures given { HasGiven result heap.old.state heap.new.state (dict_shallow_of heap.old.state of.0) }
     ensures keeps { Keeps heap.old.state.cells heap.new.state.cells }
+    ensures kept { RetainsAsMuch heap.old.state heap.new.state }
     ensures known { IfOk result (λ v. knows heap.new.state.cells v ≡ true) }
 {
     let copy = copied_entries(alloc, entries(heap, of))?;

@@ -8,6 +8,7 @@ ghost use Rattle.variant_values.specs.Changes.{Keeps, HasGiven};
 ghost use Rattle.variant_values.specs.Indexing.{character_at, entry_at, entry_put, entry_put_at, index_of, index_put, item_at, item_put, spot};
 ghost use Rattle.variant_values.specs.Keys.{with_entry};
 ghost use Rattle.variant_values.specs.declared.values.Value.{Value as AValue};
+ghost use Rattle.call_support.specs.Retaining.{RetainsAsMuch};
 
 use crate::elements::is_taken;
 use call_support::changes::{set_entry, splice};
@@ -123,6 +124,7 @@ fn set_item(
     requires to { knows heap.old.state.cells to ≡ true }
     ensures given { HasGiven result heap.old.state heap.new.state (item_put heap.old.state of.0 (spot index (length (items_of (cell_at heap.old.state.cells of.0)))) to) }
     ensures keeps { Keeps heap.old.state.cells heap.new.state.cells }
+    ensures kept { RetainsAsMuch heap.old.state heap.new.state }
 {
     let Some(at) = spot(index, items(heap, of).len()) else {
         return Err(Trouble::Fault(RunFault::BadIndex));
@@ -140,6 +142,7 @@ fn put_entry(heap: &mut Heap, of: Serial, key: Key, to: Value) -> Result<(), Tro
     requires to { knows heap.old.state.cells to ≡ true }
     ensures given { HasGiven result heap.old.state heap.new.state (entry_put_at heap.old.state of.0 key to) }
     ensures keeps { Keeps heap.old.state.cells heap.new.state.cells }
+    ensures kept { RetainsAsMuch heap.old.state heap.new.state }
 {
     if !has_room(entries(heap, of), &key) {
         return Err(Trouble::Fault(RunFault::TooLong));
@@ -163,6 +166,7 @@ fn set_by_key(heap: &mut Heap, of: Serial, index: &Value, to: Value) -> Result<(
     requires to { knows heap.old.state.cells to ≡ true }
     ensures given { HasGiven result heap.old.state heap.new.state (entry_put heap.old.state of.0 (key_of index.now) to) }
     ensures keeps { Keeps heap.old.state.cells heap.new.state.cells }
+    ensures kept { RetainsAsMuch heap.old.state heap.new.state }
 {
     put_entry(heap, of, Key::of(index)?, to)
 }
@@ -180,6 +184,7 @@ pub fn set_index(
     requires to { knows heap.old.state.cells to ≡ true }
     ensures given { HasGiven result heap.old.state heap.new.state (index_put heap.old.state of.now index.now to) }
     ensures keeps { Keeps heap.old.state.cells heap.new.state.cells }
+    ensures kept { RetainsAsMuch heap.old.state heap.new.state }
 {
     match (of, index) {
         (Value::Array(s), Value::Int(i)) => set_item(alloc, heap, *s, *i, to),

@@ -8,6 +8,7 @@ ghost use Rattle.variant_values.specs.declared.cells.Cell.{Cell as ACell};
 ghost use Rattle.variant_values.specs.ValueTexts.{Names};
 ghost use Rattle.variant_values.specs.Operations.{added, answered, arrays_joined, denied, has_key, in_text, is_found, is_part, is_value_op, operated, remainder, within};
 ghost use Rattle.container_calls.specs.Walks.{is_plain_op};
+ghost use Rattle.call_support.specs.Retaining.{RetainsAsMuch};
 
 use crate::comparisons::{equality, first_equal};
 use crate::elements::common;
@@ -112,6 +113,7 @@ fn join_arrays(alloc: Global, heap: &mut Heap, a: Serial, b: Serial) -> Result<V
     requires right { is_array (cell_at heap.old.state.cells b.0) ≡ true }
     ensures given { HasGiven result heap.old.state heap.new.state (arrays_joined heap.old.state a.0 b.0) }
     ensures keeps { Keeps heap.old.state.cells heap.new.state.cells }
+    ensures kept { RetainsAsMuch heap.old.state heap.new.state }
     ensures known { IfOk result (λ v. knows heap.new.state.cells v ≡ true) }
 {
     let both = joined_items(alloc, items(heap, a), items(heap, b))?;
@@ -142,6 +144,7 @@ fn add(alloc: Global, heap: &mut Heap, a: &Value, b: &Value) -> Result<Value, Tr
     requires right { knows heap.old.state.cells b.now ≡ true }
     ensures given { HasGiven result heap.old.state heap.new.state (added heap.old.state a.now b.now) }
     ensures keeps { Keeps heap.old.state.cells heap.new.state.cells }
+    ensures kept { RetainsAsMuch heap.old.state heap.new.state }
     ensures known { IfOk result (λ v. knows heap.new.state.cells v ≡ true) }
 {
     match (a, b) {
@@ -173,6 +176,7 @@ pub fn operate(
     requires format { op ≡ Rem → is_text a.now ≡ false }
     ensures given { (names : Names) → HasGiven result heap.old.state heap.new.state (operated names heap.old.state op a.now b.now) }
     ensures keeps { Keeps heap.old.state.cells heap.new.state.cells }
+    ensures kept { RetainsAsMuch heap.old.state heap.new.state }
     ensures known { IfOk result (λ v. knows heap.new.state.cells v ≡ true) }
 {
     match op {

@@ -5,6 +5,7 @@ ghost use Rattle.variant_values.specs.Heaps.{cell_at, is_array, knows};
 ghost use Rattle.variant_values.specs.Operators.{is_text};
 ghost use Rattle.variant_values.specs.Changes.{Keeps, HasGiven};
 ghost use Rattle.variant_values.specs.ArrayMethods.{in_order, is_number, items_at, number_before, number_in, put_in_order, sort_of, text_before, text_in};
+ghost use Rattle.call_support.specs.Retaining.{RetainsAsMuch};
 
 use crate::arrays::change;
 use call_support::views::items;
@@ -96,6 +97,7 @@ fn sort_numbers(alloc: Global, heap: &mut Heap, of: Serial) -> Result<Value, Tro
     requires numbers { list_all is_number (items_at heap.old.state of.0) ≡ true }
     ensures given { HasGiven result heap.old.state heap.new.state (put_in_order heap.old.state of.0 number_before) }
     ensures keeps { Keeps heap.old.state.cells heap.new.state.cells }
+    ensures kept { RetainsAsMuch heap.old.state heap.new.state }
     ensures known { IfOk result (λ v. knows heap.new.state.cells v ≡ true) }
 {
     let list = numbers_in_order(alloc, items(heap, of))?;
@@ -108,6 +110,7 @@ fn sort_texts(alloc: Global, heap: &mut Heap, of: Serial) -> Result<Value, Troub
     requires texts { list_all is_text (items_at heap.old.state of.0) ≡ true }
     ensures given { HasGiven result heap.old.state heap.new.state (put_in_order heap.old.state of.0 text_before) }
     ensures keeps { Keeps heap.old.state.cells heap.new.state.cells }
+    ensures kept { RetainsAsMuch heap.old.state heap.new.state }
     ensures known { IfOk result (λ v. knows heap.new.state.cells v ≡ true) }
 {
     let list = texts_in_order(alloc, items(heap, of))?;
@@ -120,6 +123,7 @@ pub(crate) fn sort(alloc: Global, heap: &mut Heap, of: Serial) -> Result<Value, 
     requires { is_array (cell_at heap.old.state.cells of.0) ≡ true }
     ensures given { HasGiven result heap.old.state heap.new.state (sort_of heap.old.state of.0) }
     ensures keeps { Keeps heap.old.state.cells heap.new.state.cells }
+    ensures kept { RetainsAsMuch heap.old.state heap.new.state }
     ensures known { IfOk result (λ v. knows heap.new.state.cells v ≡ true) }
 {
     if all_numbers(items(heap, of)) {

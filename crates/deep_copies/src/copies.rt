@@ -6,6 +6,7 @@ ghost use Rattle.variant_values.specs.Keys.{with_entry};
 ghost use Rattle.variant_values.specs.Changes.{Keeps};
 ghost use Rattle.variant_values.specs.Copies.{copied, copied_items, copied_entries, new_array_of, new_dict_of};
 ghost use Rattle.deep_copies.specs.CopyWeights.{array_copy, dict_copy, Fits};
+ghost use Rattle.call_support.specs.Retaining.{RetainsAsMuch};
 
 use call_support::changes::{new_array, new_dict};
 use call_support::views::{element, entries, items};
@@ -26,6 +27,7 @@ fn place_array(
     requires fits { Fits (with_new heap.old.state (ArrayCell items.items of)).cells }
     ensures copy { IfOk result (λ v. (v, heap.new.state) ≡ new_array_of of (items.items, heap.old.state)) }
     ensures keeps { Keeps heap.old.state.cells heap.new.state.cells }
+    ensures kept { RetainsAsMuch heap.old.state heap.new.state }
     ensures known { IfOk result (λ v. knows heap.new.state.cells v ≡ true) }
 {
     match new_array(heap, items, of) {
@@ -41,6 +43,7 @@ fn place_dict(heap: &mut Heap, entries: Entries) -> Result<Value, AllocError>
     requires fits { Fits (with_new heap.old.state (DictCell entries)).cells }
     ensures copy { IfOk result (λ v. (v, heap.new.state) ≡ new_dict_of (entries, heap.old.state)) }
     ensures keeps { Keeps heap.old.state.cells heap.new.state.cells }
+    ensures kept { RetainsAsMuch heap.old.state heap.new.state }
     ensures known { IfOk result (λ v. knows heap.new.state.cells v ≡ true) }
 {
     match new_dict(heap, entries) {
@@ -99,6 +102,7 @@ pub fn copy_value(
     requires fits { Fits (copied levels heap.old.state v.now).1.cells }
     ensures copy { IfOk result (λ w. (w, heap.new.state) ≡ copied levels heap.old.state v.now) }
     ensures keeps { Keeps heap.old.state.cells heap.new.state.cells }
+    ensures kept { RetainsAsMuch heap.old.state heap.new.state }
     ensures known { IfOk result (λ w. knows heap.new.state.cells w ≡ true) }
 {
     if levels == 0 {
@@ -117,6 +121,7 @@ fn copy_array(alloc: Global, heap: &mut Heap, of: Serial, levels: u32) -> Result
     requires fits { Fits (array_copy levels heap.old.state of).1.cells }
     ensures copy { IfOk result (λ w. (w, heap.new.state) ≡ array_copy levels heap.old.state of) }
     ensures keeps { Keeps heap.old.state.cells heap.new.state.cells }
+    ensures kept { RetainsAsMuch heap.old.state heap.new.state }
     ensures known { IfOk result (λ w. knows heap.new.state.cells w ≡ true) }
 {
     let element = element(heap, of);
@@ -130,6 +135,7 @@ fn copy_dict(alloc: Global, heap: &mut Heap, of: Serial, levels: u32) -> Result<
     requires fits { Fits (dict_copy levels heap.old.state of).1.cells }
     ensures copy { IfOk result (λ w. (w, heap.new.state) ≡ dict_copy levels heap.old.state of) }
     ensures keeps { Keeps heap.old.state.cells heap.new.state.cells }
+    ensures kept { RetainsAsMuch heap.old.state heap.new.state }
     ensures known { IfOk result (λ w. knows heap.new.state.cells w ≡ true) }
 {
     let copy = copy_entries(alloc, heap, of, levels)?;
@@ -147,6 +153,7 @@ fn copy_items(
     requires fits { Fits (copied_items (copied levels) heap.old.state (items_of (cell_at heap.old.state.cells of.0))).1.cells }
     ensures copy { IfOk result (λ list. (list.items, heap.new.state) ≡ copied_items (copied levels) heap.old.state (items_of (cell_at heap.old.state.cells of.0))) }
     ensures keeps { Keeps heap.old.state.cells heap.new.state.cells }
+    ensures kept { RetainsAsMuch heap.old.state heap.new.state }
     ensures known { IfOk result (λ list. KnowsAll heap.new.state.cells list.items) }
 {
     let mut copy = Vec::new(alloc);
@@ -168,6 +175,7 @@ fn copy_entries(
     requires fits { Fits (copied_entries (copied levels) heap.old.state (entries_of (cell_at heap.old.state.cells of.0))).1.cells }
     ensures copy { IfOk result (λ es. (es, heap.new.state) ≡ copied_entries (copied levels) heap.old.state (entries_of (cell_at heap.old.state.cells of.0))) }
     ensures keeps { Keeps heap.old.state.cells heap.new.state.cells }
+    ensures kept { RetainsAsMuch heap.old.state heap.new.state }
     ensures known { IfOk result (λ es. KnowsEntries heap.new.state.cells es) }
 {
     let mut copy = Entries::new(alloc);

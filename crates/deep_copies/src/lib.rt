@@ -6,6 +6,7 @@ ghost use Rattle.variant_values.specs.Heaps.{knows};
 ghost use Rattle.variant_values.specs.Changes.{Keeps, HasGiven};
 ghost use Rattle.variant_values.specs.Copies.{deep_copy_of};
 ghost use Rattle.deep_copies.specs.DeepCopies.{IsDeepCopy};
+ghost use Rattle.call_support.specs.Retaining.{RetainsAsMuch};
 
 mod copies;
 mod rooms;
@@ -26,6 +27,7 @@ pub fn deep_copy(alloc: Global, heap: &mut Heap, of: &Value) -> Result<Value, Tr
     ensures given { HasGiven result heap.old.state heap.new.state (deep_copy_of heap.old.state of.now) }
     ensures apart { IfOk result (λ v. IsDeepCopy heap.old.state.cells heap.new.state.cells of.now v) }
     ensures keeps { Keeps heap.old.state.cells heap.new.state.cells }
+    ensures kept { RetainsAsMuch heap.old.state heap.new.state }
     ensures known { IfOk result (λ v. knows heap.new.state.cells v ≡ true) }
 {
     heap.is_sound();

@@ -1,3 +1,14 @@
 pub mod Compute
+pub mod Near
+pub mod Bounded
+pub mod Ranked
+pub mod Decided
+pub mod Order
+pub mod Staged
+pub mod Alike
+pub mod Behind
+pub mod Knowing
+pub mod Solved
+pub mod SolvedAlike
 pub mod BaseRowsProved
 pub mod InnerRowsProved

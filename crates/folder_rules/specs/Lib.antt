@@ -6,6 +6,9 @@ pub mod Nodes
 pub mod Bases
 pub mod Rules
 pub mod Loads
+pub mod Reached
+pub mod KnownFolder
+pub mod Solving
 pub mod SmallFolders
 pub mod BaseRows
 pub mod InnerRows

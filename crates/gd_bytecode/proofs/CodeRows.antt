@@ -1,9 +1,11 @@
 -- What instructions do to one frame, worked out by hand. Each row computes.
-use Rattle.std.proofs.Common.{◌≡◌, ℕ, pos, negsuc, true, false, List, [], ◌∷◌, refl}
+use Rattle.std.proofs.Common.{◌≡◌, ℕ, ℤ, pos, negsuc, true, false, List, [], ◌∷◌, map, refl, ap, ◌∙◌, rules}
 use Rattle.std.specs.Int.{int_wrap}
 use Rattle.std.specs.Prelude.{Some, None, Ok, Err, codes}
+use Rattle.folder_meaning.specs.declared.const_value.ConstValue.{ConstValue, the_lemmas as const_lemmas}
+use Rattle.folder_meaning.specs.declared.const_value.ConstValue.TheVariants as constant
 use Rattle.folder_meaning.specs.declared.script_type.ScriptType.TheVariants as of_type
-use Rattle.variant_values.specs.declared.cells.Cell.TheVariants.{Array as ArrayCell}
+use Rattle.variant_values.specs.declared.cells.Cell.TheVariants.{Array as ArrayCell, Dict as DictCell, Object as ObjectCell}
 use Rattle.variant_values.specs.declared.classes.ClassTag.TheVariants as class_of
 use Rattle.variant_values.specs.declared.faults.RunFault.{RunFault}
 use Rattle.variant_values.specs.declared.faults.RunFault.TheVariants as fault
@@ -11,19 +13,25 @@ use Rattle.variant_values.specs.declared.operators.BinaryOp.TheVariants as binar
 use Rattle.variant_values.specs.declared.operators.UnaryOp.TheVariants as unary
 use Rattle.variant_values.specs.Comparisons.{same_value, same_at}
 use Rattle.variant_values.specs.Sweeps as sweeps
+use Rattle.variant_values.specs.declared.values.Key.TheVariants as key
 use Rattle.variant_values.specs.declared.values.Value.{Value}
 use Rattle.variant_values.specs.declared.values.Value.TheVariants as value
-use Rattle.script_meaning.specs.State.{World, Failed, Spent}
+use Rattle.native_calls.specs.Table as table
+use Rattle.script_meaning.specs.Constants.{array_made}
+use Rattle.script_meaning.specs.State.{World, Making, Failed, Spent}
+use Rattle.script_meaning.specs.Members.{constant_read}
+use Rattle.script_meaning.proofs.Made.{const-Int, const-Array}
 use Rattle.script_meaning.specs.Meanings.{Method, Static}
 use Rattle.script_meaning.specs.Tables.{project_of_rows}
 use Rattle.gd_bytecode.specs.declared.file_code.Code.{Code}
 use Rattle.gd_bytecode.specs.declared.instructions.Args.{Args}
 use Rattle.gd_bytecode.specs.declared.instructions.Instr.{Instr}
-use Rattle.gd_bytecode.specs.declared.instructions.Instr.TheVariants.{LoadNull, LoadGlobal, LoadCallable, LoadSignal, Move, Store, ToBool, Not, Unary, Binary, GetField, SetField, GetMember, GetItem, SetMember, GetIndex, Push, MakeArray, Check, IsType, AsType, FindCallee, CallFound, CallOwn, CallValue, CallFunction, WalkValue, WalkRange, WalkNext, MatchStart, MatchSame, MatchArray, MatchDict, MatchItem, MatchDrop, MatchBind, Step, EndUnit, Jump, JumpUnless, JumpIfOpen, JumpBack, Assert, Return, Fail}
+use Rattle.gd_bytecode.specs.declared.instructions.Instr.TheVariants.{LoadNull, LoadConst, LoadGlobal, LoadCallable, LoadSignal, Move, Store, ToBool, Not, Unary, Binary, GetField, SetField, GetMember, GetItem, SetMember, GetIndex, SetIndex, Push, MakeArray, MakeDict, Check, IsType, AsType, FindCallee, CallFound, CallOwn, CallNative, CallValue, CallGlobal, CallFunction, New, WalkValue, WalkRange, WalkNext, MatchStart, MatchSame, MatchArray, MatchDict, MatchKeys, MatchItem, MatchEntry, MatchDrop, MatchBind, Step, EndUnit, Jump, JumpUnless, JumpIfOpen, JumpBack, Assert, Return, Fail}
 use Rattle.gd_bytecode.specs.declared.instructions.Reg.{Reg}
-use Rattle.gd_bytecode.specs.FrameState.{Running, Setting, goes_on, Effect}
+use Rattle.gd_bytecode.specs.FrameState.{Running, Setting, goes_on, valued, Effect}
 use Rattle.gd_bytecode.specs.declared.instructions.Op.{Op}
-use Rattle.gd_bytecode.specs.Effects.{effect}
+use Rattle.gd_bytecode.specs.PartMatches.{Plain, alone, plain, is_dict_of, entry_in}
+use Rattle.gd_bytecode.specs.Effects.{effect, matches, entered}
 use Rattle.gd_bytecode.specs.CodeRuns.{runs_from}
 
 abbrev r : ℕ → Reg
@@ -46,8 +54,8 @@ abbrev code : Code
 code = record {
   file = 3;
   functions = [];
-  constants = [];
-  names = codes "f" ∷ codes "g" ∷ [];
+  constants = constant.Int (pos 4) ∷ constant.Array (constant.Int (pos 4) ∷ constant.Int (pos 9) ∷ []) ∷ constant.Array (constant.Int (pos 9) ∷ []) ∷ [];
+  names = codes "f" ∷ codes "g" ∷ codes "abs" ∷ codes "size" ∷ [];
   known_functions = record { class_tag = class_of.Object; name = codes "f" } ∷ [];
   classes = [];
   globals = [];
@@ -66,6 +74,13 @@ s = record { registers = value.Null ∷ list ∷ int 7 ∷ int 3 ∷ []; opened 
 abbrev having : List Value → Running
 having vs = record s { registers = vs }
 
+-- a dictionary with 6 at the key 4 is cell 2, and is under a match
+abbrev dict : Value
+dict = value.Dict (record { 0 = 2 })
+
+abbrev matching : Running
+matching = record s { matched = dict ∷ []; world = record world { cells = None ∷ Some (ArrayCell (int 5 ∷ int 6 ∷ []) None) ∷ Some (DictCell ((key.Int (pos 4), int 6) ∷ [])) ∷ [] } }
+
 -- what this instruction leaves, in line 8
 abbrev does : Instr → Running → Effect
 does instr t = effect a 8 instr t
@@ -76,11 +91,31 @@ op instr = record { line = 8; instr = instr }
 abbrev stops : RunFault → Effect
 stops kind = Err (Failed kind (record { file = 3; line = 8 }) world)
 
+-- constants as patterns have them
+abbrev items_of_constants : List Plain → Plain
+items_of_constants all = record { value = value.Null; items = map (λ p. p.value) all }
+
+plain-Int : (n : ℤ) → plain (constant.Int n) ≡ alone (value.Int n)
+unfolding plain
+plain-Int n = search (rules, const_lemmas)
+
+plain-Array : (all : List ConstValue) → plain (constant.Array all) ≡ items_of_constants (map plain all)
+unfolding plain
+plain-Array all = search (rules, const_lemmas)
+
 row_load_null : does (LoadNull (r 3)) s ≡ goes_on (having (value.Null ∷ list ∷ int 7 ∷ value.Null ∷ []))
 row_load_null = refl
 
 row_load_cuts : does (LoadNull (r 2)) s ≡ goes_on (having (value.Null ∷ list ∷ value.Null ∷ []))
 row_load_cuts = refl
+
+row_load_const : does (LoadConst (r 2) 0) s ≡ goes_on (having (value.Null ∷ list ∷ int 4 ∷ []))
+row_load_const = ap (λ (m : Making). valued (r 2) (constant_read m) a 8 s) (const-Int (pos 4))
+
+-- an array is made anew
+row_load_const_array : does (LoadConst (r 2) 2) s ≡ goes_on (record s { registers = value.Null ∷ list ∷ value.Array (record { 0 = 2 }) ∷ []; held = value.Array (record { 0 = 2 }) ∷ []; world = record world { cells = None ∷ Some (ArrayCell (int 5 ∷ int 6 ∷ []) None) ∷ Some (ArrayCell (int 9 ∷ []) None) ∷ [] } })
+unfolding int_wrap
+row_load_const_array = ap (λ (m : Making). valued (r 2) (constant_read m) a 8 s) (const-Array (constant.Int (pos 9) ∷ []) ∙ ap (λ (m : Making). array_made (m ∷ [])) (const-Int (pos 9)))
 
 row_load_global : does (LoadGlobal (r 2) 0) s ≡ stops fault.NoMember
 row_load_global = refl
@@ -138,6 +173,10 @@ row_get_index = refl
 row_get_index_fault : does (GetIndex (r 2) (r 1) (r 3)) s ≡ stops fault.BadIndex
 row_get_index_fault = refl
 
+row_set_index : does (SetIndex (r 1) (r 4) (r 2)) (having (value.Null ∷ list ∷ int 7 ∷ int 3 ∷ int 1 ∷ [])) ≡ goes_on (record s { registers = value.Null ∷ list ∷ int 7 ∷ int 3 ∷ int 1 ∷ []; world = record world { cells = None ∷ Some (ArrayCell (int 5 ∷ int 7 ∷ []) None) ∷ [] } })
+unfolding int_wrap
+row_set_index = refl
+
 row_push : does (Push (r 2)) s ≡ goes_on (record s { parts = int 1 ∷ int 2 ∷ int 7 ∷ [] })
 row_push = refl
 
@@ -167,6 +206,31 @@ row_call_found_none = refl
 
 row_call_own : does (CallOwn (r 2) 0 (args 3 1) 0) s ≡ stops fault.NullAccess
 row_call_own = refl
+
+-- null has no method, and an array has that of its size
+row_call_native : does (CallNative (r 2) 3 (args 3 0)) s ≡ stops fault.NullAccess
+row_call_native = refl
+
+row_call_native_size : does (CallNative (r 2) 3 (args 3 0)) (having (list ∷ list ∷ int 7 ∷ int 3 ∷ [])) ≡ goes_on (having (list ∷ list ∷ int 2 ∷ []))
+unfolding table.rows_of int_wrap
+row_call_native_size = refl
+
+row_call_global : does (CallGlobal (r 2) 2 (args 2 1)) (having (value.Null ∷ list ∷ value.Int (negsuc 6) ∷ int 3 ∷ [])) ≡ goes_on (having (value.Null ∷ list ∷ int 7 ∷ []))
+unfolding table.rows_of int_wrap
+row_call_global = refl
+
+row_call_global_unknown : does (CallGlobal (r 2) 0 (args 2 1)) s ≡ stops fault.NoMethod
+unfolding table.rows_of
+row_call_global_unknown = refl
+
+-- a new object is cell 2, and what `_init` would return is null
+row_new : does (New (r 2) class_of.Object (args 3 0) 0) s ≡ goes_on (record s { registers = value.Null ∷ list ∷ value.Object (record { 0 = 2 }) ∷ []; held = value.Object (record { 0 = 2 }) ∷ []; world = record world { cells = None ∷ Some (ArrayCell (int 5 ∷ int 6 ∷ []) None) ∷ Some (ObjectCell (record { lineage = class_of.Object ∷ []; fields = []; connections = []; node = None })) ∷ [] } })
+unfolding int_wrap
+row_new = refl
+
+row_new_refused : does (New (r 2) class_of.Object (args 3 1) 0) s ≡ Err (Failed fault.BadArgs (record { file = 3; line = 8 }) (record world { cells = None ∷ Some (ArrayCell (int 5 ∷ int 6 ∷ []) None) ∷ Some (ObjectCell (record { lineage = class_of.Object ∷ []; fields = []; connections = []; node = None })) ∷ [] }))
+unfolding int_wrap
+row_new_refused = refl
 
 row_call_value : does (CallValue (r 2) (r 2) (args 3 1)) s ≡ stops fault.NotCallable
 row_call_value = refl
@@ -211,6 +275,22 @@ row_match_or_more = refl
 row_match_dict : does (MatchDict 5) (record s { matched = list ∷ [] }) ≡ Ok (5, s)
 row_match_dict = refl
 
+row_match_dict_fits : does (MatchDict 5) matching ≡ goes_on matching
+row_match_dict_fits = refl
+
+row_match_keys : does (MatchKeys 1 5) matching ≡ goes_on matching
+row_match_keys =
+    ap (λ (p : Plain). matches (is_dict_of matching.world.cells p.items (Some dict)) 5 matching) (plain-Array (constant.Int (pos 4) ∷ constant.Int (pos 9) ∷ []) ∙ ap (λ (p : Plain). items_of_constants (p ∷ plain (constant.Int (pos 9)) ∷ [])) (plain-Int (pos 4)) ∙ ap (λ (p : Plain). items_of_constants (alone (int 4) ∷ p ∷ [])) (plain-Int (pos 9)))
+
+row_match_keys_more : does (MatchKeys 2 5) matching ≡ Ok (5, record matching { matched = [] })
+row_match_keys_more = ap (λ (p : Plain). matches (is_dict_of matching.world.cells p.items (Some dict)) 5 matching) (plain-Array (constant.Int (pos 9) ∷ []) ∙ ap (λ (p : Plain). items_of_constants (p ∷ [])) (plain-Int (pos 9)))
+
+row_match_entry : does (MatchEntry 0 5) matching ≡ goes_on (record matching { matched = dict ∷ int 6 ∷ [] })
+row_match_entry = ap (λ (p : Plain). entered (entry_in matching.world.cells p.value (Some dict)) 5 matching) (plain-Int (pos 4))
+
+row_match_entry_none : does (MatchEntry 0 5) (record s { matched = list ∷ []; bound = int 1 ∷ [] }) ≡ Ok (5, s)
+row_match_entry_none = refl
+
 row_match_item : does (MatchItem 1) (record s { matched = list ∷ [] }) ≡ goes_on (record s { matched = list ∷ int 6 ∷ [] })
 row_match_item = refl
 
@@ -254,11 +334,20 @@ row_make_array : does (MakeArray (r 2) 2 None) s ≡ goes_on (record s { registe
 unfolding int_wrap
 row_make_array = refl
 
-row_end_unit : does (EndUnit 2) (record s { parts = []; bound = int 4 ∷ []; matched = list ∷ [] }) ≡ goes_on (record s { registers = value.Null ∷ list ∷ int 4 ∷ []; opened = 3; parts = [] })
+row_make_dict : does (MakeDict (r 2) 1) s ≡ goes_on (record s { registers = value.Null ∷ list ∷ dict ∷ []; parts = []; held = dict ∷ []; world = record world { cells = None ∷ Some (ArrayCell (int 5 ∷ int 6 ∷ []) None) ∷ Some (DictCell ((key.Int (pos 1), int 2) ∷ [])) ∷ [] } })
+unfolding int_wrap
+row_make_dict = refl
+
+-- what was bound goes no further than its registers
+row_end_unit_bound : does (EndUnit 2 3) (record s { parts = []; bound = int 4 ∷ int 8 ∷ [] }) ≡ goes_on (record s { registers = value.Null ∷ list ∷ int 4 ∷ []; opened = 3; parts = [] })
+unfolding int_wrap sweeps.round
+row_end_unit_bound = refl
+
+row_end_unit : does (EndUnit 2 3) (record s { parts = []; bound = int 4 ∷ []; matched = list ∷ [] }) ≡ goes_on (record s { registers = value.Null ∷ list ∷ int 4 ∷ []; opened = 3; parts = [] })
 unfolding int_wrap sweeps.round
 row_end_unit = refl
 
-row_end_unit_sweeps : does (EndUnit 1) s ≡ goes_on (record s { registers = value.Null ∷ []; opened = 1; parts = []; world = record world { cells = None ∷ None ∷ [] } })
+row_end_unit_sweeps : does (EndUnit 1 4) s ≡ goes_on (record s { registers = value.Null ∷ []; opened = 1; parts = []; world = record world { cells = None ∷ None ∷ [] } })
 unfolding int_wrap sweeps.round
 row_end_unit_sweeps = refl
 

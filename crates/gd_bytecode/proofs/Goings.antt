@@ -35,7 +35,7 @@ use Rattle.gd_bytecode.specs.Checks.{step_at}
 use Rattle.gd_bytecode.specs.CodeLaws.{Each, IsFrugal, EnoughGoings, CallsAreFrugal}
 use Rattle.gd_bytecode.specs.Forms.{form_of}
 use Rattle.gd_bytecode.specs.FrameState.{Running, Setting, register_at, read, self_of, values_in, last_of, without_last, last_so_many, without_so_many, site_at, moment_of, spot_at, Effect, goes_on, valued, changing, unmatched, kept_by, kept, stored_by}
-use Rattle.gd_bytecode.specs.Walks.{walk_of, walk_of_span, walk_next, keys_registers}
+use Rattle.gd_bytecode.specs.Walks.{Walking, walk_of, walk_of_span, walk_next, keys_registers}
 use Rattle.gd_bytecode.specs.Effects.{name_at, constant_at, object_for, arguments_in, paired, truth, part, known_called, found_called, item_of_member, asserted, unless, walks, item_open, walk_goes_on, stepped, matches, matches_by, entered, finds, effect}
 use Rattle.gd_bytecode.specs.CodeRuns.{Goes, Lead, Forward, GoesBack, Leaves as LeadLeaves, lead_of, act_by, forward, where_step, back, runs_from, entered_with, Found, CodeBodies, code_body, initialise_by, initialise_all, fields_body, code_entry, entry_of, code_calls}
 use Rattle.gd_bytecode.proofs.Frugal.{each_then, Within, bind, gives_by_in, gives_then_in, constant_read_in, meant_value_in, member_of_in, member_in_in, holder_by_in, callee_in_in}
@@ -81,7 +81,7 @@ asserted_leaves : (l : ℕ) (b : Bool) (a : Setting) (line : ℕ) (s : Running) 
 asserted_leaves l true a line s h = record { most = h }
 asserted_leaves l false a line s h = record { most = tt }
 
-item_leaves : (l : ℕ) (walk : Reg) (o : Option (Value × List Value)) (skip : ℕ) (s : Running) → s.world.left ≤ l → Leaves l (item_open walk o skip s)
+item_leaves : (l : ℕ) (walk : Reg) (o : Option (Value × Walking)) (skip : ℕ) (s : Running) → s.world.left ≤ l → Leaves l (item_open walk o skip s)
 item_leaves l walk (Some (v, rs)) skip s h = record { most = h }
 item_leaves l walk None skip s h = record { most = h }
 
@@ -132,7 +132,7 @@ span_in' : (l : ℕ) (at : Site) (o : Option Span) (m : Moment) → m.world.left
 span_in' l at (Some span) m h = record { within = h }
 span_in' l at None m h = record { within = tt }
 
-walks_leaves : (l : ℕ) (walk : Reg) (start : At-site (List Value)) (a : Setting) (line : ℕ) (s : Running) → Within l (start (site_at a line s) (moment_of s)) → Leaves l (walks walk start a line s)
+walks_leaves : (l : ℕ) (walk : Reg) (start : At-site Walking) (a : Setting) (line : ℕ) (s : Running) → Within l (start (site_at a line s) (moment_of s)) → Leaves l (walks walk start a line s)
 walks_leaves l walk start a line s h = record { most = each_then (λ x. x.1.world.left ≤ l) (λ x. x.1.world.left ≤ l) (start (site_at a line s) (moment_of s)) _ h.within (λ x p. p) }
 
 finds_leaves : (l : ℕ) (v : Value) (name : List ℕ) (a : Setting) (line : ℕ) (s : Running) → s.world.left ≤ l → Leaves l (finds v name a line s)
@@ -198,7 +198,7 @@ module _ (a : Setting) (frugal : IsFrugal a.call) (l line : ℕ) where
   effect_leaves MatchDrop s h = record { most = h }
   effect_leaves MatchBind s h = record { most = h }
   effect_leaves Step s h = stepped_leaves l a line s goes_on h (λ t p. record { most = p })
-  effect_leaves (EndUnit locals) s h = record { most = h }
+  effect_leaves (EndUnit locals bound) s h = record { most = h }
   effect_leaves (Jump skip) s h = record { most = h }
   effect_leaves (JumpUnless condition skip) s h = unless_leaves l (truth s condition) skip s h
   effect_leaves (JumpIfOpen local skip) s h = unless_leaves l (not (nat_lt local.0 s.opened)) skip s h
@@ -245,7 +245,7 @@ stepped_fewer_by a line (suc n) s go g = g (record s { world = record s.world { 
 stepped_fewer : (a : Setting) (line : ℕ) (s : Running) (go : Running → Effect) → ((t : Running) → t.world.left < s.world.left → LeavesFewer s.world.left (go t)) → LeavesFewer s.world.left (stepped a line s go)
 stepped_fewer a line s go g = stepped_fewer_by a line s.world.left s go g
 
-item_fewer : (n : ℕ) (walk : Reg) (o : Option (Value × List Value)) (skip : ℕ) (t : Running) → t.world.left < n → LeavesFewer n (item_open walk o skip t)
+item_fewer : (n : ℕ) (walk : Reg) (o : Option (Value × Walking)) (skip : ℕ) (t : Running) → t.world.left < n → LeavesFewer n (item_open walk o skip t)
 item_fewer n walk (Some (v, rs)) skip t h = record { fewer = h }
 item_fewer n walk None skip t h = record { fewer = h }
 
@@ -300,7 +300,7 @@ module _ (a : Setting) (line : ℕ) where
   stepping MatchDrop s h = absurd (false≢true h)
   stepping MatchBind s h = absurd (false≢true h)
   stepping Step s h = record { forward = refl; fewer = stepped_fewer a line s goes_on (λ t p. record { fewer = p }) }
-  stepping (EndUnit locals) s h = absurd (false≢true h)
+  stepping (EndUnit locals bound) s h = absurd (false≢true h)
   stepping (Jump skip) s h = absurd (false≢true h)
   stepping (JumpUnless condition skip) s h = absurd (false≢true h)
   stepping (JumpIfOpen local skip) s h = absurd (false≢true h)

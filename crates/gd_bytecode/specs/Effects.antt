@@ -28,7 +28,7 @@ use Rattle.gd_bytecode.specs.declared.instructions.Instr.TheVariants.{LoadNull, 
 use Rattle.gd_bytecode.specs.declared.instructions.Reg.{Reg}
 use Rattle.gd_bytecode.specs.FrameState.{Running, Setting, register_at, read, self_of, values_in, spot_at, site_at, moment_of, Effect, goes_on, valued, changing, unmatched, called_into, kept, stored, settled, last_of, without_last, last_so_many, without_so_many}
 use Rattle.gd_bytecode.specs.PartMatches.{plain_at, is_array_of, is_dict, is_dict_of, item_in, entry_in}
-use Rattle.gd_bytecode.specs.Walks.{walk_of, walk_of_span, walk_next}
+use Rattle.gd_bytecode.specs.Walks.{Walking, walking, walk_of, walk_of_span, walk_next}
 
 -- ---- what is named by number
 
@@ -110,15 +110,15 @@ unless false skip s = Ok (skip, s)
 -- ---- walks
 
 -- a walk begins, and its unit ends with its registers open
-abbrev pub walks : Reg → At-site (List Value) → Setting → ℕ → Running → Effect
+abbrev pub walks : Reg → At-site Walking → Setting → ℕ → Running → Effect
 walks walk start a line s = do
   x ← start (site_at a line s) (moment_of s)
-  goes_on (settled a (take walk.0 s.registers ++ x.0) x.1.world)
+  goes_on (settled a (take walk.0 s.registers ++ walking x.0) x.1.world)
 
 -- the item that a walk gave is open behind its registers
-abbrev pub item_open : Reg → Option (Value × List Value) → ℕ → Running → Effect
+abbrev pub item_open : Reg → Option (Value × Walking) → ℕ → Running → Effect
 item_open walk None skip s = Ok (skip, s)
-item_open walk (Some (v, registers)) skip s = goes_on (record s { registers = take walk.0 s.registers ++ (registers ++ v ∷ []); opened = walk.0 + 4 })
+item_open walk (Some (v, next)) skip s = goes_on (record s { registers = take walk.0 s.registers ++ (walking next ++ v ∷ []); opened = walk.0 + 4 })
 
 abbrev pub walk_goes_on : Reg → ℕ → Running → Effect
 walk_goes_on walk skip s = item_open walk (walk_next s.world.cells (register_at s.registers walk.0) (register_at s.registers (walk.0 + 1)) (register_at s.registers (walk.0 + 2))) skip s
@@ -200,7 +200,7 @@ effect a line (MatchEntry key skip) s = entered (entry_in s.world.cells (plain_a
 effect a line MatchDrop s = goes_on (record s { matched = without_last s.matched })
 effect a line MatchBind s = goes_on (record s { bound = s.bound ++ part s ∷ [] })
 effect a line Step s = stepped a line s goes_on
-effect a line (EndUnit locals) s = goes_on (settled a (take locals s.registers ++ s.bound) s.world)
+effect a line (EndUnit locals bound) s = goes_on (settled a (take bound (take locals s.registers ++ s.bound)) s.world)
 effect a line (Jump skip) s = Ok (skip, s)
 effect a line (JumpUnless condition skip) s = unless (truth s condition) skip s
 effect a line (JumpIfOpen local skip) s = unless (not (nat_lt local.0 s.opened)) skip s

@@ -25,7 +25,7 @@ registers_in (CallOf to of args) = to.0 ∷ of.0 ∷ run args
 registers_in (Walk walk) = range_with_len walk.0 4
 registers_in (WalkFrom walk from) = from.0 ∷ range_with_len walk.0 3
 registers_in (WalkArgs walk args) = range_with_len walk.0 3 ++ run args
-registers_in (Open count) = range_with_len 0 count
+registers_in (Open locals bound) = range_with_len 0 locals ++ range_with_len 0 bound
 
 -- ---- forms
 
@@ -109,7 +109,7 @@ form_of (MatchEntry key skip) = with_key key skip
 form_of MatchDrop = alone registers.None
 form_of MatchBind = alone registers.None
 form_of Step = step
-form_of (EndUnit locals) = alone (Open locals)
+form_of (EndUnit locals bound) = alone (Open locals bound)
 form_of (Jump skip) = with_skip registers.None skip
 form_of (JumpUnless condition skip) = with_skip (One condition) skip
 form_of (JumpIfOpen local skip) = with_skip (One local) skip

@@ -32,7 +32,7 @@ impl fmt::Display for Registers {
             Registers::Walk(walk) => write!(f, " {walk}"),
             Registers::WalkFrom(walk, from) => write!(f, " {walk}, {from}"),
             Registers::WalkArgs(walk, args) => write!(f, " {walk}, {args}"),
-            Registers::Open(count) => write!(f, " {count}"),
+            Registers::Open(locals, bound) => write!(f, " {locals}, {bound}"),
         }
     }
 }

@@ -22,8 +22,8 @@ pub enum Registers {
     WalkFrom(Reg, Reg),
     /// The three registers of a walk, and arguments.
     WalkArgs(Reg, Args),
-    /// The first so many.
-    Open(u8),
+    /// The first so many that stay, and the first so many that may be open then.
+    Open(u8, u8),
 }
 
 /// Where an instruction may lead but to the next one.
@@ -217,7 +217,7 @@ impl Instr {
             Instr::MatchDrop => alone(Registers::None),
             Instr::MatchBind => alone(Registers::None),
             Instr::Step => step(),
-            Instr::EndUnit { locals } => alone(Registers::Open(locals)),
+            Instr::EndUnit { locals, bound } => alone(Registers::Open(locals, bound)),
             Instr::Jump { skip } => with_skip(Registers::None, skip),
             Instr::JumpUnless { condition, skip } => with_skip(Registers::One(condition), skip),
             Instr::JumpIfOpen { local, skip } => with_skip(Registers::One(local), skip),

@@ -274,10 +274,11 @@ pub enum Instr {
 
     /// takes a step, as a statement or a loop's test begins
     Step,
-    /// a unit or a block ends: the first `locals` registers are open, and B behind them; the others go, nothing is held, P, C and
-    /// M are empty, and the heap is swept
+    /// a unit or a block ends: the first `locals` registers are open, and B in R[locals..bound] behind them; the others go,
+    /// nothing is held, P, C and M are empty, and the heap is swept
     EndUnit {
         locals: u8,
+        bound: u8,
     },
     /// skip
     Jump {

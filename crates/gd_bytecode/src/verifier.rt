@@ -90,7 +90,9 @@ fn registers_are_below(registers: Registers, limit: u8) -> bool
         Registers::WalkArgs(walk, args) => {
             row_is_below(walk, 3, limit) && args_are_below(args, limit)
         }
-        Registers::Open(count) => row_is_below(Reg(0), count, limit),
+        Registers::Open(locals, bound) => {
+            row_is_below(Reg(0), locals, limit) && row_is_below(Reg(0), bound, limit)
+        }
     }
 }
 

@@ -3,6 +3,7 @@ ghost use Rattle.std.specs.Prelude.{◌≡◌, true, IfOk};
 ghost use Rattle.variant_values.specs.Heaps.{knows, KnowsAll};
 ghost use Rattle.variant_values.specs.Changes.{HasGiven, Keeps};
 ghost use Rattle.variant_values.specs.StringMethods.{split_call, string_call_of};
+ghost use Rattle.call_support.specs.Retaining.{RetainsAsMuch};
 
 use crate::joins::{join, parts, replace};
 use crate::methods;
@@ -19,6 +20,7 @@ use variant_values::values::Value;
 fn split(alloc: Global, heap: &mut Heap, of: &Str, args: &[Value]) -> Result<Value, Trouble>
     ensures given { HasGiven result heap.old.state heap.new.state (split_call heap.old.state of.now args.now) }
     ensures keeps { Keeps heap.old.state.cells heap.new.state.cells }
+    ensures kept { RetainsAsMuch heap.old.state heap.new.state }
 {
     let Some(by) = one_string(args) else {
         return Err(BAD_ARGS);
@@ -40,6 +42,7 @@ fn answer(
     requires { KnowsAll heap.old.state.cells args.now }
     ensures given { HasGiven result heap.old.state heap.new.state (string_call_of heap.old.state method of.now args.now) }
     ensures keeps { Keeps heap.old.state.cells heap.new.state.cells }
+    ensures kept { RetainsAsMuch heap.old.state heap.new.state }
 {
     match method {
         StrMethod::Length => methods::length(of, args),
@@ -79,6 +82,7 @@ pub fn string_call(
     requires { KnowsAll heap.old.state.cells args.now }
     ensures given { HasGiven result heap.old.state heap.new.state (string_call_of heap.old.state method of.now args.now) }
     ensures keeps { Keeps heap.old.state.cells heap.new.state.cells }
+    ensures kept { RetainsAsMuch heap.old.state heap.new.state }
     ensures known { IfOk result (λ v. knows heap.new.state.cells v ≡ true) }
 {
     answer(alloc, heap, method, of, args)

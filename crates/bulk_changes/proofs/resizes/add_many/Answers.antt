@@ -12,5 +12,6 @@ loop-i-preserved c =
       room = omega (arith, weight_next c.args.kind c.loop-i.heap.state c.add_one.new.heap.state c.args.count c.loop-i.i c.loop-i-test.true ok);
       serials = omega (arith, inv.serials, length_next c.args.kind c.loop-i.heap.state c.add_one.new.heap.state c.args.count c.loop-i.i c.loop-i-test.true ok);
       keeps = λ v k. c.add_one.ensures.keeps v (inv.keeps v k);
+      kept = λ x. c.add_one.ensures.kept x ∙ inv.kept x;
       known = known_next c.loop-i.heap.state.cells c.add_one.new.heap.state.cells c.loop-i.list.items c.push.new.self.items c.in_ok-v.v c.add_one.ensures.keeps inv.known c.in_ok-v.ensures.known c.in_ok-push.ensures.items;
     }

@@ -2,6 +2,7 @@ use Rattle.std.proofs.Common.{◌≡◌, ◌+◌, ◌*◌, ◌-◌, ◌^◌, ◌
 use Rattle.variant_values.specs.Places.{weight}
 use Rattle.variant_values.specs.Heaps.{KnowsAll}
 use Rattle.variant_values.specs.Changes.{Keeps}
+use Rattle.call_support.specs.Retaining.{RetainsAsMuch}
 use Rattle.variant_values.specs.Resizes.{in_a_row, with_more}
 use Rattle.bulk_changes.specs.Containers.{empty_cell, named}
 use Rattle.bulk_changes.proofs.resizes.add_many.Given as goal
@@ -13,5 +14,6 @@ invariant-loop-i l = record {
   room : weight l.heap.state.cells + 16 * (l.count - l.i) ≤ 67108864;
   serials : length l.heap.state.cells + (l.count - l.i) ≤ 2 ^ 64;
   keeps : Keeps l.fn.heap.state.cells l.heap.state.cells;
+  kept : RetainsAsMuch l.fn.heap.state l.heap.state;
   known : KnowsAll l.heap.state.cells l.list.items;
 }

@@ -49,6 +49,7 @@ copy_entries-loop-i-preserved t c =
     record {
       done = subst (λ (es : List (Key × Value)). KnowsEntries c.copy_value.new.heap.state.cells es) back (entries_more c.loop-i.heap.state.cells c.copy_value.new.heap.state.cells c.loop-i.copy k w keeps c.loop-i.invariant.done (key_keeps c.loop-i.heap.state.cells c.copy_value.new.heap.state.cells k keeps c.in_ok-key.ensures.key) c.in_ok-inner.ensures.known);
       keeps = λ x known. keeps x (c.loop-i.invariant.keeps x known);
+      kept = λ x. c.in_ok-inner.ensures.kept x ∙ c.loop-i.invariant.kept x;
       stays = cell_stays c.args.levels c.loop-i.heap.state c.copy_value.new.heap.state v w c.args.of.0 c.in_ok-inner.ensures.copy (dict_within c.loop-i.heap.state.cells c.args.of.0 (ap is_dict c.loop-i.invariant.stays ∙ c.requires.known)) ∙ c.loop-i.invariant.stays;
       once = subst (λ (es : List (Key × Value)). HasKeysOnce (es ++ drop (c.loop-i.i + 1) from)) back (once_next c.loop-i.copy from c.loop-i.i k v w at c.loop-i.invariant.once);
       whole = subst (λ (es : List (Key × Value)). CopyingEntries (copied c.args.levels) c.copy_value.new.heap.state es (drop (c.loop-i.i + 1) from) (copied_entries (copied c.args.levels) c.args.heap.now.state from)) back (entry_next (copied c.args.levels) (copied_grown c.args.levels) c.loop-i.heap.state c.copy_value.new.heap.state c.loop-i.copy from c.loop-i.i k v w (copied_entries (copied c.args.levels) c.args.heap.now.state from) at c.in_ok-inner.ensures.copy c.loop-i.invariant.whole);
@@ -72,6 +73,7 @@ copy_items-loop-i-preserved t c =
     record {
       done = subst (λ (vs : List Value). KnowsAll c.copy_value.new.heap.state.cells vs) back (items_more c.loop-i.heap.state.cells c.copy_value.new.heap.state.cells c.loop-i.copy.items w keeps c.loop-i.invariant.done c.in_ok-copy_value.ensures.known);
       keeps = λ x known. keeps x (c.loop-i.invariant.keeps x known);
+      kept = λ x. c.in_ok-copy_value.ensures.kept x ∙ c.loop-i.invariant.kept x;
       stays = cell_stays c.args.levels c.loop-i.heap.state c.copy_value.new.heap.state v w c.args.of.0 c.in_ok-copy_value.ensures.copy (array_within c.loop-i.heap.state.cells c.args.of.0 (ap is_array c.loop-i.invariant.stays ∙ c.requires.known)) ∙ c.loop-i.invariant.stays;
       whole = subst (λ (vs : List Value). Copying (copied c.args.levels) c.copy_value.new.heap.state vs (drop (c.loop-i.i + 1) from) (copied_items (copied c.args.levels) c.args.heap.now.state from)) back (item_next (copied c.args.levels) (copied_grown c.args.levels) c.loop-i.heap.state c.copy_value.new.heap.state c.loop-i.copy.items from c.loop-i.i v w (copied_items (copied c.args.levels) c.args.heap.now.state from) at c.in_ok-copy_value.ensures.copy c.loop-i.invariant.whole);
     }

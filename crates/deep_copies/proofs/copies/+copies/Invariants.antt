@@ -1,5 +1,6 @@
 use Rattle.std.proofs.Common.{◌≡◌, ◌+◌, ◌*◌, ◌++◌, drop}
 use Rattle.variant_values.specs.Changes.{Keeps}
+use Rattle.call_support.specs.Retaining.{RetainsAsMuch}
 use Rattle.variant_values.specs.Copies.{copied, copied_items, copied_entries}
 use Rattle.variant_values.specs.Heaps.{cell_at, entries_of, items_of, KnowsAll, KnowsEntries}
 use Rattle.variant_values.specs.Keys.{HasKeysOnce}
@@ -26,6 +27,7 @@ invariant-copy_items-loop-i l =
     record {
       done : KnowsAll l.heap.state.cells l.copy.items;
       keeps : Keeps l.fn.heap.state.cells l.heap.state.cells;
+      kept : RetainsAsMuch l.fn.heap.state l.heap.state;
       stays : cell_at l.heap.state.cells l.of.0 ≡ cell_at l.fn.heap.state.cells l.of.0;
       whole : (l.copy.items ++ (copied_items (copied l.levels) l.heap.state (drop l.i from)).0, (copied_items (copied l.levels) l.heap.state (drop l.i from)).1) ≡ copied_items (copied l.levels) l.fn.heap.state from;
     }
@@ -36,6 +38,7 @@ invariant-copy_entries-loop-i l =
     record {
       done : KnowsEntries l.heap.state.cells l.copy;
       keeps : Keeps l.fn.heap.state.cells l.heap.state.cells;
+      kept : RetainsAsMuch l.fn.heap.state l.heap.state;
       stays : cell_at l.heap.state.cells l.of.0 ≡ cell_at l.fn.heap.state.cells l.of.0;
       once : HasKeysOnce (l.copy ++ drop l.i from);
       whole : (l.copy ++ (copied_entries (copied l.levels) l.heap.state (drop l.i from)).0, (copied_entries (copied l.levels) l.heap.state (drop l.i from)).1) ≡ copied_entries (copied l.levels) l.fn.heap.state from;

@@ -1,0 +1,3 @@
+pub mod Compute
+pub mod ProjectRowsProved
+pub mod SceneRowsProved

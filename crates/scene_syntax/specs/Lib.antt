@@ -1,0 +1,9 @@
+pub mod Values
+pub mod Lines
+pub mod Project
+pub mod ProjectRows
+pub mod Cursors
+pub mod SceneValues
+pub mod Headings
+pub mod Scenes
+pub mod SceneRows

@@ -1,0 +1,4 @@
+mod Texts
+mod ValueTurns
+mod LineTurns
+mod Quotes

@@ -1,0 +1,4 @@
+pub mod EscapeParts
+pub mod ValueParts
+pub mod LineParts
+pub mod Drafts
